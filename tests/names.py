@@ -18,11 +18,16 @@ PROMISES, DEFINITIONS, CONTRIBUTING = 'docs/PROMISES.md', 'docs/DEFINITIONS.md',
 TOP_CALLS = 'crates/desync_cli/src/run.rt', 'crates/desync_cli/src/in_memory.rt'
 CLAUSE = re.compile(r'^\s*(?:ensures|requires)\*? (\w+) \{')
 FUNCTION = re.compile(r'\s*(?:pub(?:\(\w+\))? )?fn (\w+)')
-DEFINITION = re.compile(r'^( *)(?:(?:abbrev|unfoldable) )?pub ((?:record|data) )?(?!mod |◌)(\w+)')
+DEFINITION = re.compile(r'^( *)(?:(?:abbrev|unfoldable) )?pub ((?:record|data) )?(?!mod |use |◌)(\w+)')
 IMPORT = re.compile(r'^(?:ghost )?use Rattle\.(\w+)\.specs\.(\w+)\.\{([^}]*)\}', re.MULTILINE)
 MOST_LINES, MOST_BODY = 1500, 40
 # Names of specs/ that several modules define, which modules these are, and why they may share it.
-SHARED = {}
+SHARED = {name: ({f'chunk_server.{here}', f'http_serve.{there}'}, 'said of any requests, and of those for chunks')
+          for here, there, names in (('Requests', 'Requests', ('AreRequests', 'IsOver')),
+                                     ('Requests', 'Protocols', ('Asked',)), ('Turns', 'Protocols', ('Turn',)),
+                                     ('Turns', 'Turns', ('BreaksOff', 'Cut', 'Lacking', 'SendsMost', 'Served', 'Takes',
+                                                         'files_left', 'replies', 'turns_of')))
+          for name in names}
 NAME = re.compile(r'[a-z][a-z0-9]*(?:_[a-z0-9]+)+|[A-Z][a-z0-9]+(?:[A-Z][a-z0-9]*)+')
 
 

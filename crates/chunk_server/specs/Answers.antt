@@ -9,18 +9,9 @@ use Rattle.chunk_store.specs.Paths.{path_of}
 use Rattle.chunk_store.specs.declared.id.DigestKind.{DigestKind}
 use Rattle.dsy_base.specs.Folders.{put_in}
 use Rattle.dsy_base.specs.Maps.{Map}
+pub use Rattle.http_serve.specs.Answers.{Answer, bare}
 use Rattle.http_wire.specs.declared.request.Act.{Act}
 use Rattle.http_wire.specs.declared.request.Act.TheVariants as act
-
--- an answer: its status, the length that it tells, and the body that is sent
-pub record Answer : Type 0 where
-  pub status : ℕ
-  pub size : ℕ
-  pub body : List ℕ
-
--- a status alone
-abbrev pub bare : ℕ → Answer
-bare status = record { status = status; size = 0; body = [] }
 
 -- the chunk, where bytes are held under its id that have its name and aren't too many
 abbrev pub chunk_held : DigestKind → List ℕ → Option (List ℕ) → Option (List ℕ)

@@ -1,60 +1,39 @@
 -- What contracts see of a shelf, and how its answers change that.
-use Rattle.std.specs.Prelude.{◌≡◌, ◌≢◌, ℕ, ◌≤◌, ◌⊎◌, List, [], length, false, Option, Some, None, IfSome}
-use Rattle.std.specs.Option.{option_map}
+use Rattle.std.specs.Prelude.{◌≡◌, ◌≢◌, ℕ, ◌⊎◌, List, [], length, false, Option}
 use Rattle.chunk_store.specs.Names.{name_of}
 use Rattle.chunk_store.specs.declared.id.DigestKind.{DigestKind}
 use Rattle.dir_store.specs.Names.{is_temporary}
-use Rattle.dsy_base.specs.Counts.{Rose}
 use Rattle.dsy_base.specs.Maps.{Map}
 use Rattle.chunk_server.specs.Answers.{Answer, answer_to, bare, files_after}
-use Rattle.chunk_server.specs.declared.shelf.Reply.{Reply}
+pub use Rattle.http_serve.specs.Answers.{answer_in}
+use Rattle.http_serve.specs.Steps.{AnswersOrFails, AreBothAlike, RunsShort, ServedState}
 use Rattle.http_wire.specs.declared.request.Act.{Act}
 use Rattle.http_wire.specs.declared.request.Act.TheVariants as act
 
 -- the files of its folder, where they are told, and how often a call on it has failed
-pub record ServedFolder : Type 0 where
-  pub files : Option (Map (List ℕ))
-  pub faults : ℕ
+abbrev pub ServedFolder : Type 0
+ServedFolder = ServedState (Map (List ℕ))
 
 -- a folder as a shelf sees it
 abbrev pub shelved : {F : Type 0} → (F → Option (Map (List ℕ))) → (F → ℕ) → F → ServedFolder
 shelved files faults folder = record { files = files folder; faults = faults folder }
 
--- a reply as an answer
-abbrev pub answer_in : Reply → Answer
-answer_in r = record { status = r.status; size = r.length; body = r.body.items }
-
 -- the files differ in temporary ones alone
+abbrev pub AreTemporariesApart : Map (List ℕ) → Map (List ℕ) → Type 0
+AreTemporariesApart m n = (q : List ℕ) → is_temporary q ≡ false → n q ≡ m q
+
+-- so they do, or none are told
 abbrev pub AreAlikeButTemporaries : Option (Map (List ℕ)) → Option (Map (List ℕ)) → Type 0
-AreAlikeButTemporaries (Some m) (Some n) = (q : List ℕ) → is_temporary q ≡ false → n q ≡ m q
-AreAlikeButTemporaries (Some m) None = ⊥
-AreAlikeButTemporaries None (Some n) = ⊥
-AreAlikeButTemporaries None None = Unit {0}
+AreAlikeButTemporaries old new = AreBothAlike AreTemporariesApart old new
 
--- the request was answered as the files say
-pub record IsServedStep (kind : DigestKind) (old : ServedFolder) (a : Act) (body : List ℕ) (r : Answer)
-    (new : ServedFolder) : Type 0 where
-  pub answer : IfSome old.files (λ m. r ≡ answer_to kind m a body)
-  pub files : new.files ≡ option_map (λ m. files_after kind m a body) old.files
-  pub faults : old.faults ≤ new.faults
-
--- a call on the folder has failed, and was counted
-pub record FolderFails (old : ServedFolder) (r : Answer) (new : ServedFolder) : Type 0 where
-  pub answer : r ≡ bare 500
-  pub files : AreAlikeButTemporaries old.files new.files
-  pub faults : old.faults ≤ new.faults
-  pub cause : Rose old.faults new.faults
-
--- one or the other
+-- the request was answered as the files say, or a call on the folder has failed and was counted
 abbrev pub ServesOrFails : DigestKind → ServedFolder → Act → List ℕ → Answer → ServedFolder → Type 0
-ServesOrFails kind old a body r new = IsServedStep kind old a body r new ⊎ FolderFails old r new
+ServesOrFails kind old a body r new =
+    AnswersOrFails (λ m. answer_to kind m a body) (λ m. files_after kind m a body) AreTemporariesApart old r new
 
 -- there was no memory: the files are as before the step, or as after it
-pub record StepLacksMemory (kind : DigestKind) (old : ServedFolder) (a : Act) (body : List ℕ)
-    (new : ServedFolder) : Type 0 where
-  pub files : AreAlikeButTemporaries old.files new.files
-      ⊎ AreAlikeButTemporaries (option_map (λ m. files_after kind m a body) old.files) new.files
-  pub faults : old.faults ≤ new.faults
+abbrev pub StepLacksMemory : DigestKind → ServedFolder → Act → List ℕ → ServedFolder → Type 0
+StepLacksMemory kind old a body new = RunsShort (λ m. files_after kind m a body) AreTemporariesApart old new
 
 -- a status that tells of no chunk
 abbrev pub IsBare : Answer → Type 0

@@ -8,13 +8,13 @@ ghost use Rattle.chunk_server.specs.Shelves.{IsAnswer, ServedFolder, ServesOrFai
 ghost use Rattle.chunk_store.specs.Gets.{GetGives};
 ghost use Rattle.chunk_store.specs.Names.{name_of};
 
-use crate::replying::HEAD_ROOM;
 use crate::shelf::Reply;
 use chunk_store::id::{ChunkId, DigestKind};
 use chunk_store::store::GetFault;
 use dir_store::store::{DirStore, FIRST_READ};
 use dsy_base::fault::{IoFault, Memory};
 use dsy_base::folder::Folder;
+use http_serve::service::HEAD_ROOM;
 use std::alloc::Global;
 use std::marker::Model;
 

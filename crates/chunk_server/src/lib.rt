@@ -4,9 +4,7 @@
 
 pub mod chunk_file;
 pub mod laws;
-mod receiving;
-mod replying;
 pub mod serve;
 pub mod shelf;
+mod shelf_service;
 pub mod state;
-mod waiting;

@@ -2,7 +2,7 @@
 
 ghost use Rattle.std.specs.Prelude.{◌≡◌, ℕ, Bool, List, ◌≤◌, length, IfOk, IfSome, OnErr, false};
 ghost use Rattle.caibx_fields.specs.Limits.{size_limit};
-ghost use Rattle.chunk_server.specs.Answers.{Answer, bare};
+ghost use Rattle.chunk_server.specs.Answers.{Answer};
 ghost use Rattle.chunk_server.specs.Shelves.{IsAnswer, StepLacksMemory, ServedFolder, ServesOrFails, answer_in};
 ghost use Rattle.chunk_store.specs.declared.id.DigestKind.{DigestKind};
 ghost use Rattle.http_wire.specs.Request.{is_refusal};
@@ -10,29 +10,8 @@ ghost use Rattle.http_wire.specs.declared.request.Act.{Act};
 
 use chunk_store::id::DigestKind;
 use dsy_base::fault::Memory;
+pub use http_serve::service::Reply;
 use http_wire::request::Act;
-use std::alloc::Global;
-
-/// A reply: its status, the length that it tells, and the body that is sent. Only a 200 to GET has one.
-#[derive(Debug, Drop)]
-pub struct Reply {
-    pub status: u16,
-    pub length: u64,
-    pub body: Vec<u8>,
-}
-
-impl Reply {
-    /// A reply without a body.
-    pub fn bare(alloc: Global, status: u16) -> Reply
-        ensures { answer_in result ≡ bare status }
-    {
-        Reply {
-            status,
-            length: 0,
-            body: Vec::new(alloc),
-        }
-    }
-}
 
 /// What answers the requests on a connection.
 pub trait Shelf: Drop {

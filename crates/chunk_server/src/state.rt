@@ -5,6 +5,7 @@ ghost use Rattle.caibx_fields.specs.Limits.{size_limit};
 ghost use Rattle.chunk_server.specs.Reads.{ReadsFile};
 ghost use Rattle.chunk_server.specs.Shelves.{AreAlikeButTemporaries, IsAnswer, RefusesOtherDigest, ServesOrFails};
 ghost use Rattle.chunk_server.specs.Shelves.{answer_in, shelved};
+ghost use Rattle.chunk_store.specs.Kinds.{kind_named};
 ghost use Rattle.chunk_store.specs.Names.{name_of};
 ghost use Rattle.chunk_store.specs.declared.id.DigestKind.TheVariants as kinds;
 ghost use Rattle.http_wire.specs.Request.{is_refusal};
@@ -44,14 +45,15 @@ impl<F: Folder> ShelfState<F> {
     /// body is read.
     pub fn new(alloc: Global, folder: F, writable: bool) -> Result<ShelfState<F>, (F, Memory)>
         requires opening { IfSome F.opening (λ m. F.files folder ≡ Some m) }
+        requires kind { IfSome F.opening (λ m. kinds.Sha512T256 ≡ kind_named F.kind) }
         ensures ok { IfOk result (λ s. s ≡ record { folder = folder; kind = kinds.Sha512T256; writable = writable }) }
         ensures err { IfErr result (λ e. e.0 ≡ folder) }
     {
         ShelfState::with_kind(alloc, DigestKind::Sha512T256, folder, writable)
     }
 
-    /// The chunks of this folder, which are named by this digest. Where nothing may be put, a PUT is refused before its
-    /// body is read.
+    /// The chunks of this folder, which are named by this digest. Where the type of the folder names what it began
+    /// with, it names the digest too. Where nothing may be put, a PUT is refused before its body is read.
     pub fn with_kind(
         alloc: Global,
         kind: DigestKind,
@@ -59,6 +61,7 @@ impl<F: Folder> ShelfState<F> {
         writable: bool,
     ) -> Result<ShelfState<F>, (F, Memory)>
         requires opening { IfSome F.opening (λ m. F.files folder ≡ Some m) }
+        requires kind { IfSome F.opening (λ m. kind ≡ kind_named F.kind) }
         ensures ok { IfOk result (λ s. s ≡ record { folder = folder; kind = kind; writable = writable }) }
         ensures err { IfErr result (λ e. e.0 ≡ folder) }
     {
