@@ -8,7 +8,7 @@ use Rattle.chunk_server.specs.Answers.{Answer, files_after}
 use Rattle.chunk_server.specs.FileReads.{FileRead}
 use Rattle.chunk_server.specs.Reads.{ReadsFile}
 use Rattle.chunk_server.specs.Shelves.{AreAlikeButTemporaries, ServedFolder, ServesOrFails, answer_in}
-use Rattle.chunk_server.specs.declared.shelf.Reply.{Reply}
+use Rattle.http_serve.specs.declared.service.Reply.{Reply}
 use Rattle.chunk_store.specs.Folders.{chunks}
 use Rattle.chunk_store.specs.Names.{IsId, name_of}
 use Rattle.chunk_store.specs.Paths.{path_of}

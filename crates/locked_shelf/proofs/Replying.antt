@@ -9,7 +9,7 @@ use Rattle.chunk_server.specs.Reads.{ReadsFile, asked_by}
 use Rattle.chunk_server.specs.Shelves.{RefusesOtherDigest, ServedFolder, ServesOrFails, answer_in}
 use Rattle.chunk_server.specs.declared.chunk_file.ReadMethod.{ReadMethod}
 use Rattle.chunk_server.specs.declared.chunk_file.ReadMethod.TheVariants as method
-use Rattle.chunk_server.specs.declared.shelf.Reply.{Reply}
+use Rattle.http_serve.specs.declared.service.Reply.{Reply}
 use Rattle.chunk_store.specs.Folders.{chunks}
 use Rattle.chunk_store.specs.Names.{name_of}
 use Rattle.chunk_store.specs.declared.id.ChunkId.{ChunkId}

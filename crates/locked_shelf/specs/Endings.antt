@@ -4,7 +4,6 @@ use Rattle.chunk_server.specs.Answers.{Answer}
 use Rattle.chunk_server.specs.Requests.{AreRequests, IsOver}
 use Rattle.chunk_server.specs.Turns.{IsFair, SendsMost, Turn, replies}
 use Rattle.chunk_store.specs.declared.id.DigestKind.{DigestKind}
-use Rattle.chunk_store.specs.declared.id.DigestKind.TheVariants as kinds
 use Rattle.dsy_base.specs.Counts.{Rose}
 use Rattle.dsy_base.specs.Links.{LinkState, Traffic}
 use Rattle.dsy_base.specs.Maps.{Map}
@@ -39,12 +38,13 @@ module _ (kind : DigestKind) (may : Act → List ℕ → Answer → Type 0) (wri
   HasEndedSo false l = IfSome l.traffic IsAnswered ⊎ (Rose 0 l.faults × IfSome l.traffic IsBrokenOff)
   HasEndedSo true l = IfSome l.traffic IsBrokenOff
 
--- the same over a folder whose type names the files that it began with. The bytes are told exactly where `tells` is
--- true
+-- the same over a folder whose type names the digest of its chunks, and the files that it began with. The bytes are
+-- told exactly where `tells` is true
 pub record EndsOver
-    (opening : Option (Map (List ℕ))) (never_fails writable tells lacking : Bool) (l : LinkState) : Type 0 where
+    (kind : DigestKind) (opening : Option (Map (List ℕ))) (never_fails writable tells lacking : Bool) (l : LinkState)
+    : Type 0 where
   pub told : is_some l.traffic ≡ tells
-  pub so : HasEndedSo kinds.Sha512T256 (MayReply kinds.Sha512T256 opening never_fails) writable lacking l
+  pub so : HasEndedSo kind (MayReply kind opening never_fails) writable lacking l
 
 -- a connection that has ended, and whether there was no memory to serve it
 pub record Gone (K : Type 0) : Type 0 where

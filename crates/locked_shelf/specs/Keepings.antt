@@ -1,11 +1,16 @@
--- What a folder holds that began with named files, and into which only right chunks were put.
-use Rattle.std.specs.Prelude.{◌≡◌, ℕ, ◌≤◌, ◌⊎◌, List, length, Option, Some, None, IsTrue}
+-- What a shelf behind a lock holds: a folder that began with named files, and into which only right chunks were put.
+use Rattle.std.specs.Prelude.{◌≡◌, ℕ, ◌≤◌, ◌⊎◌, Bool, List, length, Option, Some, None, IsTrue}
 use Rattle.chunk_store.specs.Folders.{chunks}
 use Rattle.chunk_store.specs.Names.{name_of}
 use Rattle.chunk_store.specs.declared.id.DigestKind.{DigestKind}
 use Rattle.dir_store.specs.Names.{is_stranger}
 use Rattle.dsy_base.specs.Maps.{Map}
 use Rattle.caibx_fields.specs.Limits.{size_limit}
+
+-- what is known of a shelf without its lock: which digest names its chunks, and whether chunks may be put
+pub record LockedRules : Type 0 where
+  pub kind : DigestKind
+  pub writable : Bool
 
 -- bytes that may be put under the id
 pub record IsPuttable (kind : DigestKind) (id b : List ℕ) : Type 0 where

@@ -4,7 +4,7 @@ ghost use Rattle.std.specs.Prelude.{◌≡◌, ℕ, ◌≤◌, List, length, IfO
 ghost use Rattle.caibx_fields.specs.Limits.{size_limit};
 ghost use Rattle.chunk_server.specs.Reads.{asked_by};
 ghost use Rattle.chunk_server.specs.Shelves.{IsAnswer, answer_in};
-ghost use Rattle.chunk_store.specs.declared.id.DigestKind.TheVariants as kinds;
+ghost use Rattle.chunk_store.specs.Kinds.{kind_named};
 ghost use Rattle.http_wire.specs.declared.request.Act.TheVariants as act;
 ghost use Rattle.locked_shelf.specs.Keepings.{KeepsOpening};
 ghost use Rattle.locked_shelf.specs.Replies.{MayReply};
@@ -18,6 +18,7 @@ use dsy_base::fault::Memory;
 use dsy_base::folder::Folder;
 use http_wire::request::Act;
 use std::alloc::Global;
+use std::marker::Model;
 use std::sync::{Mutex, Wait};
 
 /// A folder of chunks that threads share. Its lock is held while a chunk's file is read or written, and no longer.
@@ -25,7 +26,20 @@ use std::sync::{Mutex, Wait};
 pub struct LockedShelf<F: Folder> {
     alloc: Global,
     kept: Mutex<Kept<F>>,
+    kind: DigestKind,
     writable: bool,
+}
+
+impl<F: Folder> Model for LockedShelf<F> {
+    ghost use Rattle.std.specs.Prelude.{◌≡◌};
+    ghost use Rattle.chunk_store.specs.Kinds.{kind_named};
+    ghost use Rattle.locked_shelf.specs.Keepings.{LockedRules};
+
+    ghost Value = { LockedRules };
+
+    ghost view = { λ s. record { kind = s.kind; writable = s.writable } };
+
+    ghost invariant = { λ s. s.kind ≡ kind_named F.kind };
 }
 
 /// The shelf as one connection sees it. The connection has a buffer of its own, so that digests are computed while
@@ -38,17 +52,20 @@ pub struct ShelfDoor<'a, R: Wait, F: Folder> {
 }
 
 impl<F: Folder> LockedShelf<F> {
-    /// The folder holds what its type names, where that names something.
+    /// The shelf is of the kind that its folder's type names, and the folder holds what the type names, where that
+    /// names something.
     pub fn new(state: ShelfState<F>) -> LockedShelf<F>
-        requires kind { state.kind ≡ kinds.Sha512T256 }
+        requires kind { state.kind ≡ kind_named F.kind }
         requires opening { IfSome F.opening (λ first. F.files state.folder ≡ Some first) }
         ensures kept { result.writable ≡ state.writable }
     {
         let alloc = state.alloc();
+        let kind = state.kind();
         let writable = state.writable();
         LockedShelf {
             alloc,
             kept: Mutex::new(Kept::new(state)),
+            kind,
             writable,
         }
     }
@@ -70,8 +87,15 @@ impl<F: Folder> LockedShelf<F> {
         self.writable
     }
 
+    // The kind that the folder's type names.
+    fn kind(&self) -> DigestKind
+        ensures value { result ≡ kind_named F.kind }
+    {
+        self.kind
+    }
+
     pub fn into_inner(self) -> ShelfState<F>
-        ensures kept { IfSome F.opening (λ first. KeepsOpening kinds.Sha512T256 first (F.files result.folder)) }
+        ensures kept { IfSome F.opening (λ first. KeepsOpening (kind_named F.kind) first (F.files result.folder)) }
     {
         self.kept.into_inner().into_inner()
     }
@@ -80,59 +104,62 @@ impl<F: Folder> LockedShelf<F> {
 impl<'a, R: Wait, F: Folder> ShelfDoor<'a, R, F> {
     // The answer to a GET or a HEAD. The digest is computed once the lock is given back.
     fn find(&mut self, method: ReadMethod, id: &ChunkId) -> Result<Reply, Memory>
-        ensures only { IfOk result (λ r. IsAnswer kinds.Sha512T256 (asked_by method id.now) (answer_in r)) }
+        ensures only { IfOk result (λ r. IsAnswer (kind_named F.kind) (asked_by method id.now) (answer_in r)) }
         ensures may { IfOk result (λ r. (body : List ℕ) →
-            MayReply kinds.Sha512T256 F.opening F.never_fails (asked_by method id.now) body (answer_in r)) }
+            MayReply (kind_named F.kind) F.opening F.never_fails (asked_by method id.now) body (answer_in r)) }
         ensures kept { self.new.shelf.now ≡ self.old.shelf.now }
     {
         self.file.make_room()?;
-        self.shelf.kept.lock(self.rt).read(id, &mut self.file);
-        self.file
-            .reply(self.shelf.alloc, DigestKind::Sha512T256, method, id)
+        let shelf = self.shelf;
+        shelf.kept.lock(self.rt).read(id, &mut self.file);
+        self.file.reply(shelf.alloc, shelf.kind(), method, id)
     }
 
     // The answer to a PUT. The digest is computed before the lock is taken.
     fn put(&self, id: &ChunkId, body: &[u8]) -> Result<Reply, Memory>
         requires size { length body.now ≤ size_limit }
-        ensures only { IfOk result (λ r. IsAnswer kinds.Sha512T256 (act.Put id.now) (answer_in r)) }
-        ensures may { IfOk result (λ r. MayReply kinds.Sha512T256 F.opening F.never_fails (act.Put id.now) body.now
+        ensures only { IfOk result (λ r. IsAnswer (kind_named F.kind) (act.Put id.now) (answer_in r)) }
+        ensures may { IfOk result (λ r. MayReply (kind_named F.kind) F.opening F.never_fails (act.Put id.now) body.now
             (answer_in r)) }
     {
-        if !id.is_of(DigestKind::Sha512T256, body) {
-            return Ok(Reply::bare(self.shelf.alloc, 400));
+        let shelf = self.shelf;
+        if !id.is_of(shelf.kind(), body) {
+            return Ok(Reply::bare(shelf.alloc, 400));
         }
-        self.shelf.kept.lock(self.rt).put(id, body)
+        shelf.kept.lock(self.rt).put(id, body)
     }
 }
 
 impl<'a, R: Wait, F: Folder> Shelf for ShelfDoor<'a, R, F> {
     ghost use Rattle.std.specs.Prelude.{[], None};
+    ghost use Rattle.chunk_store.specs.Kinds.{kind_named};
 
     ghost state = { λ _. record { files = None; faults = 0 } };
 
     ghost place = { λ _. [] };
 
-    ghost digest = { λ _. kinds.Sha512T256 };
+    ghost digest = { λ _. kind_named F.kind };
 
     ghost takes = { λ s. s.shelf.now.writable };
 
-    ghost may = { MayReply kinds.Sha512T256 F.opening F.never_fails };
+    ghost may = { MayReply (kind_named F.kind) F.opening F.never_fails };
 
     fn answer(&mut self, act: &Act, body: &[u8]) -> Result<Reply, Memory> {
+        let shelf = self.shelf;
         match act {
             Act::Get(id) => self.find(ReadMethod::Get, id),
             Act::Head(id) => self.find(ReadMethod::Head, id),
             Act::Put(id) => self.put(id, body),
-            Act::Lost => Ok(Reply::bare(self.shelf.alloc, 404)),
+            Act::Lost => Ok(Reply::bare(shelf.alloc, 404)),
             Act::Refuse(_) => unreachable!(),
         }
     }
 
     fn kind(&self) -> DigestKind {
-        DigestKind::Sha512T256
+        self.shelf.kind()
     }
 
     fn writable(&self) -> bool {
-        self.shelf.writable
+        self.shelf.writable()
     }
 }

@@ -1,6 +1,7 @@
 //! A connection is served to its end, and what its type then tells of it.
 
 ghost use Rattle.std.specs.Prelude.{◌≡◌, Bool, true};
+ghost use Rattle.chunk_store.specs.Kinds.{kind_named};
 ghost use Rattle.dsy_base.specs.Links.{IsFreshLink};
 ghost use Rattle.locked_shelf.specs.Endings.{EndsOver};
 
@@ -31,20 +32,23 @@ pub(crate) struct EndedLink<K: Link, F: Folder, M: Mode> {
 }
 
 impl<K: Link, F: Folder, M: Mode> Model for EndedLink<K, F, M> {
+    ghost use Rattle.chunk_store.specs.Kinds.{kind_named};
     ghost use Rattle.locked_shelf.specs.Endings.{EndsOver, Gone};
 
     ghost Value = { Gone K };
 
     ghost view = { λ s. record { link = s.link; lacking = s.lacking } };
 
-    ghost invariant = { λ s. EndsOver F.opening F.never_fails M.writable K.tells s.lacking (K.state s.link) };
+    ghost invariant = { λ s. EndsOver (kind_named F.kind) F.opening F.never_fails M.writable K.tells s.lacking
+        (K.state s.link) };
 }
 
 impl<K: Link, F: Folder, M: Mode> EndedLink<K, F, M> {
     /// The connection, and whether there was no memory for it.
     pub fn into_parts(self) -> (K, bool)
         ensures value { result ≡ (self.link, self.lacking) }
-        ensures ended { EndsOver F.opening F.never_fails M.writable K.tells result.1 (K.state result.0) }
+        ensures ended { EndsOver (kind_named F.kind) F.opening F.never_fails M.writable K.tells result.1
+            (K.state result.0) }
     {
         (self.link, self.lacking)
     }

@@ -2,8 +2,8 @@
 
 ghost use Rattle.std.specs.Prelude.{◌≡◌, ◌≤◌, length, IfOk, IfSome, Some};
 ghost use Rattle.chunk_server.specs.Shelves.{IsAnswer, answer_in};
+ghost use Rattle.chunk_store.specs.Kinds.{kind_named};
 ghost use Rattle.chunk_store.specs.Names.{name_of};
-ghost use Rattle.chunk_store.specs.declared.id.DigestKind.TheVariants as kinds;
 ghost use Rattle.caibx_fields.specs.Limits.{size_limit};
 ghost use Rattle.http_wire.specs.declared.request.Act.TheVariants as act;
 ghost use Rattle.locked_shelf.specs.Keepings.{KeepsOpening};
@@ -21,7 +21,8 @@ use dsy_base::fault::Memory;
 use dsy_base::folder::Folder;
 use std::marker::Model;
 
-/// A folder of chunks that began with the files that its type names. Only right chunks were put into it.
+/// A folder of chunks of the kind that its type names, which began with the files that this type names. Only right
+/// chunks were put into it.
 #[derive(Drop)]
 pub struct Kept<F: Folder> {
     state: ShelfState<F>,
@@ -30,20 +31,20 @@ pub struct Kept<F: Folder> {
 impl<F: Folder> Model for Kept<F> {
     ghost use Rattle.std.specs.Prelude.{◌≡◌, IfSome};
     ghost use Rattle.chunk_server.specs.States.{Standing};
-    ghost use Rattle.chunk_store.specs.declared.id.DigestKind.TheVariants as kinds;
+    ghost use Rattle.chunk_store.specs.Kinds.{kind_named};
     ghost use Rattle.locked_shelf.specs.Keepings.{KeepsOpening};
 
     ghost Value = { Standing F };
 
     ghost view = { λ s. s.state };
 
-    ghost invariant = { λ s. (s.state.kind ≡ kinds.Sha512T256)
-        × IfSome F.opening (λ first. KeepsOpening kinds.Sha512T256 first (F.files s.state.folder)) };
+    ghost invariant = { λ s. (s.state.kind ≡ kind_named F.kind)
+        × IfSome F.opening (λ first. KeepsOpening (kind_named F.kind) first (F.files s.state.folder)) };
 }
 
 impl<F: Folder> Kept<F> {
     pub fn new(state: ShelfState<F>) -> Kept<F>
-        requires kind { state.kind ≡ kinds.Sha512T256 }
+        requires kind { state.kind ≡ kind_named F.kind }
         requires opening { IfSome F.opening (λ first. F.files state.folder ≡ Some first) }
         ensures { result ≡ state }
     {
@@ -52,24 +53,25 @@ impl<F: Folder> Kept<F> {
 
     pub fn into_inner(self) -> ShelfState<F>
         ensures same { result ≡ self }
-        ensures kept { IfSome F.opening (λ first. KeepsOpening kinds.Sha512T256 first (F.files result.folder)) }
+        ensures kept { IfSome F.opening (λ first. KeepsOpening (kind_named F.kind) first (F.files result.folder)) }
     {
         self.state
     }
 
     /// Reads the file of this id. No digest is computed, since others wait for the lock meanwhile.
     pub fn read(&mut self, id: &ChunkId, file: &mut ChunkFile)
-        ensures bytes { IfSome F.opening (λ first. ReadsKept kinds.Sha512T256 first F.never_fails id.now.0 file.new) }
+        ensures bytes { IfSome F.opening (λ first.
+            ReadsKept (kind_named F.kind) first F.never_fails id.now.0 file.new) }
     {
         self.state.read(id, file);
     }
 
     /// Puts a body under its digest.
     pub fn put(&mut self, id: &ChunkId, body: &[u8]) -> Result<Reply, Memory>
-        requires named { name_of kinds.Sha512T256 body.now ≡ id.now.0 }
+        requires named { name_of (kind_named F.kind) body.now ≡ id.now.0 }
         requires size { length body.now ≤ size_limit }
-        ensures only { IfOk result (λ r. IsAnswer kinds.Sha512T256 (act.Put id.now) (answer_in r)) }
-        ensures may { IfOk result (λ r. MayReply kinds.Sha512T256 F.opening F.never_fails (act.Put id.now) body.now
+        ensures only { IfOk result (λ r. IsAnswer (kind_named F.kind) (act.Put id.now) (answer_in r)) }
+        ensures may { IfOk result (λ r. MayReply (kind_named F.kind) F.opening F.never_fails (act.Put id.now) body.now
             (answer_in r)) }
     {
         id_has_32_bytes(id);

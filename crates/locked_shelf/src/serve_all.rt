@@ -2,6 +2,7 @@
 
 ghost use Rattle.std.specs.Prelude.{◌≡◌, ◌≢◌, ◌<◌, ◌≤◌, ◌++◌, [], ◌∷◌, false, Some};
 ghost use Rattle.std.specs.Option.{option_map};
+ghost use Rattle.chunk_store.specs.Kinds.{kind_named};
 ghost use Rattle.dsy_base.specs.Counts.{Rose};
 ghost use Rattle.dsy_base.specs.Links.{IsFreshLink};
 ghost use Rattle.locked_shelf.specs.Endings.{EndsOver};
@@ -59,7 +60,7 @@ fn give_one<L: Listen, F: Folder, M: Mode>(
 )
     ensures given { (L.state listen.new).ended
         ≡ option_map (λ done. done ++ L.Link.state ended.link ∷ []) (L.state listen.old).ended }
-    ensures ended { GivesBack (EndsOver F.opening F.never_fails M.writable L.Link.tells)
+    ensures ended { GivesBack (EndsOver (kind_named F.kind) F.opening F.never_fails M.writable L.Link.tells)
         (L.state listen.old) (L.state listen.new) tally.old tally.new }
 {
     let (link, lacking) = ended.into_parts();
@@ -73,7 +74,7 @@ fn give_back<L: Listen, F: Folder, M: Mode>(
     gathered: Gathered<L::Link, F, M>,
     tally: &mut Tally,
 )
-    ensures ended { GivesBack (EndsOver F.opening F.never_fails M.writable L.Link.tells)
+    ensures ended { GivesBack (EndsOver (kind_named F.kind) F.opening F.never_fails M.writable L.Link.tells)
         (L.state listen.old) (L.state listen.new) tally.old tally.new }
 {
     tally.lose(gathered.lost);
@@ -91,7 +92,7 @@ fn make_room<L: Listen, F: Folder, M: Mode, R: Wait>(
     tally: &mut Tally,
 )
     ensures room { tally.new.pending < MOST }
-    ensures ended { GivesBack (EndsOver F.opening F.never_fails M.writable L.Link.tells)
+    ensures ended { GivesBack (EndsOver (kind_named F.kind) F.opening F.never_fails M.writable L.Link.tells)
         (L.state listen.old) (L.state listen.new) tally.old tally.new }
 {
     give_back(listen, gathering.take(rt, alloc), tally);
@@ -119,7 +120,7 @@ fn hear<'s, E, L: Listen, F: Folder + Send, M: Mode + Send, R: Threads + Wait + 
 where
     L::Link: Send,
     requires mode { shelf.now.writable ≡ M.writable }
-    ensures served { HasHeard (EndsOver F.opening F.never_fails M.writable L.Link.tells)
+    ensures served { HasHeard (EndsOver (kind_named F.kind) F.opening F.never_fails M.writable L.Link.tells)
         (L.state listen.old) (L.state listen.new) result.0 result.1 }
 {
     let mut tally = Tally {
@@ -161,7 +162,7 @@ fn serve_scoped<'x, L: Listen, F: Folder + Send, M: Mode + Send, R: Threads + Wa
 where
     L::Link: Send,
     requires mode { shelf.now.writable ≡ M.writable }
-    ensures served { HasHeard (EndsOver F.opening F.never_fails M.writable L.Link.tells)
+    ensures served { HasHeard (EndsOver (kind_named F.kind) F.opening F.never_fails M.writable L.Link.tells)
         (L.state listen.old) (L.state listen.new) result.0 result.1 }
 {
     let lent = &mut *listen;
@@ -171,7 +172,7 @@ where
         move |scope| -> (&mut L, AllServed, Tally)
             requires { shelf.now.writable ≡ M.writable }
             ensures same { result.0.ghost_name ≡ lent.entry.ghost_name }
-            ensures served { HasHeard (EndsOver F.opening F.never_fails M.writable L.Link.tells)
+            ensures served { HasHeard (EndsOver (kind_named F.kind) F.opening F.never_fails M.writable L.Link.tells)
                 (L.state lent.entry.now) (L.state result.0.now) result.1 result.2 }
         {
             let (served, tally) = hear(rt, alloc, scope, lent, shelf, gathering, one_by_one);
@@ -194,9 +195,10 @@ where
     L::Link: Send,
     requires mode { shelf.now.writable ≡ M.writable }
     ensures end { result ≡ AllServed.Ended → (L.state listen.new).coming ≡ Some [] }
-    ensures served { result ≢ AllServed.Memory → ServesAll (EndsOver F.opening F.never_fails M.writable L.Link.tells)
+    ensures served { result ≢ AllServed.Memory →
+        ServesAll (EndsOver (kind_named F.kind) F.opening F.never_fails M.writable L.Link.tells)
         (L.state listen.old) (L.state listen.new) }
-    ensures lacking { ServesSome (EndsOver F.opening F.never_fails M.writable L.Link.tells)
+    ensures lacking { ServesSome (EndsOver (kind_named F.kind) F.opening F.never_fails M.writable L.Link.tells)
         (L.state listen.old) (L.state listen.new) }
     ensures cause { result ≡ AllServed.ListenFault → Rose (L.state listen.old).faults (L.state listen.new).faults }
     ensures faults { (L.state listen.old).faults ≤ (L.state listen.new).faults }
@@ -223,9 +225,9 @@ where
     L::Link: Send,
     ensures end { result ≡ AllServed.Ended → (L.state listen.new).coming ≡ Some [] }
     ensures served { result ≢ AllServed.Memory →
-        ServesAll (EndsOver F.opening F.never_fails shelf.now.writable L.Link.tells)
+        ServesAll (EndsOver (kind_named F.kind) F.opening F.never_fails shelf.now.writable L.Link.tells)
         (L.state listen.old) (L.state listen.new) }
-    ensures lacking { ServesSome (EndsOver F.opening F.never_fails shelf.now.writable L.Link.tells)
+    ensures lacking { ServesSome (EndsOver (kind_named F.kind) F.opening F.never_fails shelf.now.writable L.Link.tells)
         (L.state listen.old) (L.state listen.new) }
     ensures cause { result ≡ AllServed.ListenFault → Rose (L.state listen.old).faults (L.state listen.new).faults }
     ensures faults { (L.state listen.old).faults ≤ (L.state listen.new).faults }

@@ -2,7 +2,7 @@
 use Rattle.std.proofs.Common.{◌≡◌, ◌≢◌, ◌==◌, ℕ, List, Bool, true, false, cond, Option, Some, None, IfSome, is_some, IfOk, OnErr, IsTrue, Result, Ok, Err, refl, sym, ap, subst, ◌∙◌, arith, eq-eqb, eqb-true, true≢false}
 use Rattle.std.specs.Option.{option_map}
 use Rattle.std.specs.Map.{count_at}
-use Rattle.chunk_store.specs.declared.id.DigestKind.TheVariants.{Sha512T256}
+use Rattle.chunk_store.specs.declared.id.DigestKind.{DigestKind}
 use Rattle.command_outcome.specs.declared.outcome.Outcome.TheVariants as ends
 use Rattle.command_steps.proofs.Numbers.{given_rose, rose_later}
 use Rattle.command_worlds.specs.Worlds.{Adds, FolderRose, Reads, World}
@@ -52,25 +52,25 @@ pub gives_rose_later : (d e b : Disk) (q : List ℕ) (m n : ℕ) → Reads d e �
 gives_rose_later d e b q m n read given none rose =
     rose_later (count_at d.folder_counts q) (count_at e.folder_counts q) (count_at b.folder_counts q) (read.folder_counts q) (gives_rose e b q m n given none rose)
 
-module _ (q : List ℕ) (repair : Bool) (held : Option (Map (List ℕ))) (w v : World) (n : ℕ) (keeps : KeepsCounts w v) (back : VerifiedBack q held (IsStoreChecked Sha512T256 repair n) w v) where
-  left_by : (b : Bool) → (n == 0) ≡ b → StoreVerified q repair held w (cond b (Ok tt) (Err (ends.DamagedLeft n))) v
-  left_by true e = (subst (λ k. VerifiedBack q held (IsStoreChecked Sha512T256 repair k) w v) (eqb-true n 0 e) back, keeps)
+module _ (kind : DigestKind) (q : List ℕ) (repair : Bool) (held : Option (Map (List ℕ))) (w v : World) (n : ℕ) (keeps : KeepsCounts w v) (back : VerifiedBack q held (IsStoreChecked kind repair n) w v) where
+  left_by : (b : Bool) → (n == 0) ≡ b → StoreVerified kind q repair held w (cond b (Ok tt) (Err (ends.DamagedLeft n))) v
+  left_by true e = (subst (λ k. VerifiedBack q held (IsStoreChecked kind repair k) w v) (eqb-true n 0 e) back, keeps)
   left_by false e =
       let some : n ≢ 0 = λ none. let both : true ≡ false = sym (eq-eqb n 0 none) ∙ e in absurd (cc) in
       ((some, back), keeps)
 
   -- the answer by how many are left
-  pub left_ends : StoreVerified q repair held w (answer_of_left n) v
+  pub left_ends : StoreVerified kind q repair held w (answer_of_left n) v
   left_ends = left_by (n == 0) refl
 
 -- the outcome of a check, whose folder was given back
-module _ (q : List ℕ) (repair : Bool) (held new : Option (Map (List ℕ))) (w v : World) (keeps : KeepsCounts w v) (back : v.disk.folders ≡ option_map (λ m. at_name m q new) w.disk.folders) where
+module _ (kind : DigestKind) (q : List ℕ) (repair : Bool) (held new : Option (Map (List ℕ))) (w v : World) (keeps : KeepsCounts w v) (back : v.disk.folders ≡ option_map (λ m. at_name m q new) w.disk.folders) where
   abbrev change : Change
   change = record { old = held; new = new; before = w.out.taken; taken = v.out.taken }
 
-  pub outcome_ends : (r : Result ℕ StoreCheck) → IfOk r (λ n. IsStoreChecked Sha512T256 repair n change) → OnErr r (StopsVerifying Sha512T256 repair change) → (r ≡ Err checks.StoreFault → FolderRose w.disk v.disk q) → (r ≡ Err checks.OutFault → Rose w.out.faults v.out.faults)
-      → StoreVerified q repair held w (answer_of_verify r) v
-  outcome_ends (Ok n) all stops store out = left_ends q repair held w v n keeps (record { files = new; back = back; change = all })
+  pub outcome_ends : (r : Result ℕ StoreCheck) → IfOk r (λ n. IsStoreChecked kind repair n change) → OnErr r (StopsVerifying kind repair change) → (r ≡ Err checks.StoreFault → FolderRose w.disk v.disk q) → (r ≡ Err checks.OutFault → Rose w.out.faults v.out.faults)
+      → StoreVerified kind q repair held w (answer_of_verify r) v
+  outcome_ends (Ok n) all stops store out = left_ends kind q repair held w v n keeps (record { files = new; back = back; change = all })
   outcome_ends (Err checks.StoreFault) all stops store out = ((refl, store refl, record { files = new; back = back; change = stops }), keeps)
   outcome_ends (Err checks.OutFault) all stops store out = ((out refl, record { files = new; back = back; change = stops }), keeps)
   outcome_ends (Err checks.Memory) all stops store out = (record { files = new; back = back; change = stops }, keeps)

@@ -7,7 +7,7 @@ use Rattle.std.specs.Option.{option_map}
 use Rattle.chunk_server.specs.Answers.{Answer}
 use Rattle.chunk_server.specs.Shelves.{ServedFolder}
 use Rattle.chunk_server.specs.Turns.{Cut, Lacking, Served}
-use Rattle.chunk_store.specs.declared.id.DigestKind.TheVariants as kinds
+use Rattle.chunk_store.specs.declared.id.DigestKind.{DigestKind}
 use Rattle.command_outcome.specs.declared.outcome.Outcome.{Outcome}
 use Rattle.command_outcome.specs.declared.outcome.Outcome.TheVariants as ends
 use Rattle.command_worlds.specs.Steps.{◌>>=◌}
@@ -55,22 +55,23 @@ pub record ConnectionEnded (so : Traffic → ℕ → Type 0) (t : Traffic) (u : 
   pub how : so ended u.faults
 
 -- it was served to its end, or its count of faults rose and it was broken off
-abbrev pub IsServed : Bool → Serves
-IsServed writable t old u new = ConnectionEnded (λ x failed. Served kinds.Sha512T256 any_answer writable t old x new
-    ⊎ (Rose 0 failed × Cut kinds.Sha512T256 any_answer writable t old x new)) t u
+abbrev pub IsServed : DigestKind → Bool → Serves
+IsServed kind writable t old u new = ConnectionEnded (λ x failed. Served kind any_answer writable t old x new
+    ⊎ (Rose 0 failed × Cut kind any_answer writable t old x new)) t u
 
 -- there was no memory for it
-abbrev pub LacksMemory : Bool → Serves
-LacksMemory writable t old u new =
-    ConnectionEnded (λ x failed. Lacking kinds.Sha512T256 any_answer writable t old x new) t u
+abbrev pub LacksMemory : DigestKind → Bool → Serves
+LacksMemory kind writable t old u new =
+    ConnectionEnded (λ x failed. Lacking kind any_answer writable t old x new) t u
 
 -- these connections came and ended so, each served over the files that the one before it left
-unfoldable pub AreServed : Bool → List Traffic → ServedFolder → List LinkState → ServedFolder → Type 0
-AreServed writable [] old [] new = new ≡ old
-AreServed writable [] old (u ∷ gone) new = ⊥
-AreServed writable (t ∷ came) old [] new = ⊥
-AreServed writable (t ∷ came) old (u ∷ gone) new =
-    (next : ServedFolder) × IsServed writable t old u next × AreServed writable came next gone new
+unfoldable pub AreServed
+    : DigestKind → Bool → List Traffic → ServedFolder → List LinkState → ServedFolder → Type 0
+AreServed kind writable [] old [] new = new ≡ old
+AreServed kind writable [] old (u ∷ gone) new = ⊥
+AreServed kind writable (t ∷ came) old [] new = ⊥
+AreServed kind writable (t ∷ came) old (u ∷ gone) new =
+    (next : ServedFolder) × IsServed kind writable t old u next × AreServed kind writable came next gone new
 
 -- ---- a listener
 
@@ -97,37 +98,38 @@ Hears serves l m old new =
 
 -- the first ones were taken and served, and no others
 pub record TakesFront
-    (writable : Bool) (queue : List Traffic) (done : List LinkState) (m : ListenState) (old new : ServedFolder) : Type 0
-  where
-    pub came : List Traffic
-    pub gone : List LinkState
-    pub rest : List Traffic
-    pub were : queue ≡ came ++ rest
-    pub coming : m.coming ≡ Some rest
-    pub ended : m.ended ≡ Some (done ++ gone)
-    pub served : AreServed writable came old gone new
+    (kind : DigestKind) (writable : Bool) (queue : List Traffic) (done : List LinkState) (m : ListenState)
+    (old new : ServedFolder) : Type 0 where
+  pub came : List Traffic
+  pub gone : List LinkState
+  pub rest : List Traffic
+  pub were : queue ≡ came ++ rest
+  pub coming : m.coming ≡ Some rest
+  pub ended : m.ended ≡ Some (done ++ gone)
+  pub served : AreServed kind writable came old gone new
 
-abbrev pub Listens : Bool → ListenState → ListenState → ServedFolder → ServedFolder → Type 0
-Listens writable l m old new =
-    IfSome l.coming (λ queue. IfSome l.ended (λ done. TakesFront writable queue done m old new))
+abbrev pub Listens : DigestKind → Bool → ListenState → ListenState → ServedFolder → ServedFolder → Type 0
+Listens kind writable l m old new =
+    IfSome l.coming (λ queue. IfSome l.ended (λ done. TakesFront kind writable queue done m old new))
 
 -- and then there was no memory, for one more connection or without one
-abbrev pub RunsOut : Bool → ListenState → ListenState → ServedFolder → ServedFolder → Type 0
-RunsOut writable l m old new = Listens writable l m old new
+abbrev pub RunsOut : DigestKind → Bool → ListenState → ListenState → ServedFolder → ServedFolder → Type 0
+RunsOut kind writable l m old new = Listens kind writable l m old new
     ⊎ ((k : ListenState) × (mid : ServedFolder)
-    × Listens writable l k old mid × Hears (LacksMemory writable) k m mid new)
+    × Listens kind writable l k old mid × Hears (LacksMemory kind writable) k m mid new)
 
 -- ---- threads
 
 -- connections were served at the same time, each against the files of a folder that began with the first ones, and was
 -- given right chunks alone. Connections are told exactly where `tells` is true
 pub record ServesAtOnce
-    (h : Heard) (writable : Bool) (serves : (Bool → LinkState → Type 0) → ListenState → ListenState → Type 0)
+    (kind : DigestKind) (h : Heard) (writable : Bool)
+    (serves : (Bool → LinkState → Type 0) → ListenState → ListenState → Type 0)
     (old new : ServedFolder) : Type 0 where
   pub tells : Bool
   pub told : is_some h.old.coming ≡ true → tells ≡ true
-  pub kept : IfSome old.files (λ first. KeepsOpening kinds.Sha512T256 first new.files)
-  pub served : serves (EndsOver old.files h.never_fails writable tells) h.old h.new
+  pub kept : IfSome old.files (λ first. KeepsOpening kind first new.files)
+  pub served : serves (EndsOver kind old.files h.never_fails writable tells) h.old h.new
 
 -- ---- the command
 
@@ -144,14 +146,14 @@ answer_of_sharing shared.ListenFault = Err ends.ListenFault
 answer_of_sharing shared.Memory = Err ends.Memory
 
 -- how the connections were served: one after the other where `in_turn` is true
-abbrev pub Serving : Bool → Heard → Bool → ServedFolder → ServedFolder → Type 0
-Serving true h writable old new = Listens writable h.old h.new old new
-Serving false h writable old new = ServesAtOnce h writable ServesAll old new
+abbrev pub Serving : DigestKind → Bool → Heard → Bool → ServedFolder → ServedFolder → Type 0
+Serving kind true h writable old new = Listens kind writable h.old h.new old new
+Serving kind false h writable old new = ServesAtOnce kind h writable ServesAll old new
 
 -- and how, if there was no memory
-abbrev pub ServingShort : Bool → Heard → Bool → ServedFolder → ServedFolder → Type 0
-ServingShort true h writable old new = RunsOut writable h.old h.new old new
-ServingShort false h writable old new = ServesAtOnce h writable ServesSome old new
+abbrev pub ServingShort : DigestKind → Bool → Heard → Bool → ServedFolder → ServedFolder → Type 0
+ServingShort kind true h writable old new = RunsOut kind writable h.old h.new old new
+ServingShort kind false h writable old new = ServesAtOnce kind h writable ServesSome old new
 
 -- a folder that was taken
 abbrev pub fresh : Option (Map (List ℕ)) → ServedFolder
@@ -166,25 +168,28 @@ pub record ServedBack (q : List ℕ) (held : Option (Map (List ℕ))) (Serving :
   pub counted : count_at e.folder_counts q ≡ raised (count_at d.folder_counts q) left.faults
   pub serving : Serving (fresh held) left
 
-module _ (in_turn : Bool) (h : Heard) (writable : Bool) (q : List ℕ) (held : Option (Map (List ℕ))) where
-  abbrev pub NotServed : Disk → Disk → Outcome → Type 0
-  NotServed d e ends.ListenFault =
-      Rose h.old.faults h.new.faults × ServedBack q held (Serving in_turn h writable) d e
-  NotServed d e ends.Memory = ServedBack q held (ServingShort in_turn h writable) d e
-  NotServed d e other = ⊥
+module _
+    (kind : DigestKind) (in_turn : Bool) (h : Heard) (writable : Bool) (q : List ℕ) (held : Option (Map (List ℕ)))
+  where
+    abbrev pub NotServed : Disk → Disk → Outcome → Type 0
+    NotServed d e ends.ListenFault =
+        Rose h.old.faults h.new.faults × ServedBack q held (Serving kind in_turn h writable) d e
+    NotServed d e ends.Memory = ServedBack q held (ServingShort kind in_turn h writable) d e
+    NotServed d e other = ⊥
 
-  -- it is done where no more connections come
-  abbrev pub FolderServed : Step Disk Unit
-  FolderServed d (Ok u) e =
-      ((h.new.coming ≡ Some []) × ServedBack q held (Serving in_turn h writable) d e) × Adds d e
-  FolderServed d (Err o) e = NotServed d e o × Adds d e
+    -- it is done where no more connections come
+    abbrev pub FolderServed : Step Disk Unit
+    FolderServed d (Ok u) e =
+        ((h.new.coming ≡ Some []) × ServedBack q held (Serving kind in_turn h writable) d e) × Adds d e
+    FolderServed d (Err o) e = NotServed d e o × Adds d e
 
 -- where the folder isn't reached, nobody is heard
 abbrev pub TakenUnheard : Heard → List ℕ → Step Disk (Option (Map (List ℕ)))
 TakenUnheard h q d (Ok held) e = StoreTaken [] q d (Ok held) e
 TakenUnheard h q d (Err o) e = StoreTaken [] q d (Err o) e × (h.new ≡ h.old)
 
-abbrev pub ChunkServerEnds : Heard → List ℕ → Bool → ℕ → Step World Unit
-ChunkServerEnds h store writable workers = do
+-- the chunks of the store are named by a digest of this kind
+abbrev pub ChunkServerEnds : DigestKind → Heard → List ℕ → Bool → ℕ → Step World Unit
+ChunkServerEnds kind h store writable workers = do
   held ← OnDisk (TakenUnheard h store)
-  OnDisk (FolderServed (workers == 1) h writable store held)
+  OnDisk (FolderServed kind (workers == 1) h writable store held)

@@ -2,7 +2,7 @@
 use Rattle.std.specs.Prelude.{◌≡◌, ◌≢◌, ℕ, ◌≤◌, ◌==◌, if◌then◌else◌, Bool, List, [], ◌++◌}
 use Rattle.std.specs.Prelude.{Option, Some, Result, Ok, Err}
 use Rattle.std.specs.Option.{option_map}
-use Rattle.chunk_store.specs.declared.id.DigestKind.TheVariants.{Sha512T256}
+use Rattle.chunk_store.specs.declared.id.DigestKind.{DigestKind}
 use Rattle.command_outcome.specs.declared.outcome.Outcome.{Outcome}
 use Rattle.command_outcome.specs.declared.outcome.Outcome.TheVariants as ends
 use Rattle.command_worlds.specs.Steps.{◌>>=◌}
@@ -38,34 +38,35 @@ pub record KeepsCounts (w v : World) : Type 0 where
   pub dial : v.dial ≡ w.dial
   pub out : w.out.faults ≤ v.out.faults
 
-module _ (q : List ℕ) (repair : Bool) (held : Option (Map (List ℕ))) where
+module _ (kind : DigestKind) (q : List ℕ) (repair : Bool) (held : Option (Map (List ℕ))) where
   abbrev pub NotVerified : World → World → Outcome → Type 0
-  NotVerified w v (ends.DamagedLeft n) = (n ≢ 0) × VerifiedBack q held (IsStoreChecked Sha512T256 repair n) w v
+  NotVerified w v (ends.DamagedLeft n) = (n ≢ 0) × VerifiedBack q held (IsStoreChecked kind repair n) w v
   NotVerified w v (ends.StoreFault k) =
-      (k ≡ 0) × FolderRose w.disk v.disk q × VerifiedBack q held (StopsVerifying Sha512T256 repair) w v
+      (k ≡ 0) × FolderRose w.disk v.disk q × VerifiedBack q held (StopsVerifying kind repair) w v
   NotVerified w v ends.OutFault =
-      Rose w.out.faults v.out.faults × VerifiedBack q held (StopsVerifying Sha512T256 repair) w v
-  NotVerified w v ends.Memory = VerifiedBack q held (StopsVerifying Sha512T256 repair) w v
+      Rose w.out.faults v.out.faults × VerifiedBack q held (StopsVerifying kind repair) w v
+  NotVerified w v ends.Memory = VerifiedBack q held (StopsVerifying kind repair) w v
   NotVerified w v other = ⊥
 
   -- no damaged chunk file is left
   abbrev pub StoreVerified : Step World Unit
-  StoreVerified w (Ok u) v = VerifiedBack q held (IsStoreChecked Sha512T256 repair 0) w v × KeepsCounts w v
+  StoreVerified w (Ok u) v = VerifiedBack q held (IsStoreChecked kind repair 0) w v × KeepsCounts w v
   StoreVerified w (Err o) v = NotVerified w v o × KeepsCounts w v
 
-abbrev pub VerifyEnds : List ℕ → Bool → Step World Unit
-VerifyEnds store repair = do
+-- the chunks of the store are named by a digest of this kind
+abbrev pub VerifyEnds : DigestKind → List ℕ → Bool → Step World Unit
+VerifyEnds kind store repair = do
   held ← OnDisk (StoreTaken [] store)
-  StoreVerified store repair held
+  StoreVerified kind store repair held
 
 -- the store's folder, which was there, holds its files, with `repair` without the damaged chunk files; these are
 -- printed, and none is left. No other folder has changed
-pub record IsVerifiedStore (folders folders_after : Map (Map (List ℕ))) (before taken : Option (List ℕ))
-    (store : List ℕ) (repair : Bool) : Type 0 where
+pub record IsVerifiedStore (kind : DigestKind) (folders folders_after : Map (Map (List ℕ)))
+    (before taken : Option (List ℕ)) (store : List ℕ) (repair : Bool) : Type 0 where
   pub held : Map (List ℕ)
   pub folder_was : folders store ≡ Some held
   pub damaged : List (List ℕ)
-  pub all : AreDamaged Sha512T256 held damaged
+  pub all : AreDamaged kind held damaged
   pub folder_is : folders_after ≡ at_name folders store (left_of repair damaged (Some held))
   pub text : taken ≡ option_map (λ t. t ++ text_of_damaged repair damaged) before
   pub none : 0 ≡ damaged_left repair damaged

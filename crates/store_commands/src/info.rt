@@ -45,7 +45,7 @@ fn count<F: Files, D: Dial>(
         return Ok(None);
     }
     let opened = open_sources(alloc, files, dial, stores)?;
-    let mut chain = Chain::new(opened);
+    let mut chain = Chain::with_kind(index.kind(), opened);
     let counted = count_in_store(alloc, index, &mut chain);
     close_sources(files, dial, chain.into_stores());
     match counted {

@@ -3,7 +3,6 @@
 
 ghost use Rattle.std.specs.Prelude.{◌≡◌, ◌==◌, ◌≤◌, ◌⊎◌, [], false, true, Ok, Err, IsSome, OnOk, Some};
 ghost use Rattle.chunk_server.specs.Shelves.{shelved};
-ghost use Rattle.chunk_store.specs.declared.id.DigestKind.TheVariants as kinds;
 ghost use Rattle.command_worlds.specs.Worlds.{world};
 ghost use Rattle.store_commands.specs.Serving.{ChunkServerEnds, FolderServed, Hears, IsIdle, IsServed, LacksMemory};
 ghost use Rattle.store_commands.specs.Serving.{Listens, RunsOut, answer_of_serving, answer_of_sharing, heard};
@@ -13,6 +12,7 @@ ghost use Rattle.dsy_base.specs.Links.{DialState};
 
 use chunk_server::serve::{Served, serve};
 use chunk_server::state::ShelfState;
+use chunk_store::id::DigestKind;
 use command_outcome::outcome::Outcome;
 use command_steps::taken_stores::{give_folder, take_folder};
 use dir_store::store::DirStore;
@@ -23,16 +23,18 @@ use dsy_base::listen::Listen;
 use dsy_base::look::Look;
 use dsy_base::name::Name;
 use locked_shelf::serve_all::AllServed;
-use locked_shelf::serve_folder::serve_folder;
+use locked_shelf::serve_folder::{ShelfRules, serve_folder};
 use std::alloc::Global;
 use std::sync::Wait;
 use std::thread::Threads;
 
-/// How a server serves: where it listens, whether chunks may be put, and by how many workers.
+/// How a server serves: where it listens, which digest names the chunks, whether chunks may be put, and by how many
+/// workers.
 #[derive(Drop)]
 pub struct Service {
     pub host: Name,
     pub port: u16,
+    pub kind: DigestKind,
     pub writable: bool,
     pub workers: u32,
 }
@@ -43,8 +45,8 @@ fn serve_next<L: Listen, F: Folder>(
     listen: &mut L,
     shelf: &mut ShelfState<F>,
 ) -> Result<bool, IoFault>
-    requires kind { shelf.old.kind ≡ kinds.Sha512T256 }
-    ensures served { result ≡ Ok true → Hears (IsServed shelf.old.writable) (L.state listen.old) (L.state listen.new)
+    ensures served { result ≡ Ok true →
+        Hears (IsServed shelf.old.kind shelf.old.writable) (L.state listen.old) (L.state listen.new)
         (shelved F.files F.faults shelf.old.folder) (shelved F.files F.faults shelf.new.folder) }
     ensures end { result ≡ Ok false → ((L.state listen.new).coming ≡ Some [])
         × IsIdle (L.state listen.old) (L.state listen.new) × (shelf.new ≡ shelf.old) }
@@ -52,7 +54,7 @@ fn serve_next<L: Listen, F: Folder>(
         × IsIdle (L.state listen.old) (L.state listen.new) × (shelf.new ≡ shelf.old) }
     ensures lacking { result ≡ Err IoFault.Memory →
         (IsIdle (L.state listen.old) (L.state listen.new) × (shelf.new ≡ shelf.old))
-        ⊎ Hears (LacksMemory shelf.old.writable) (L.state listen.old) (L.state listen.new)
+        ⊎ Hears (LacksMemory shelf.old.kind shelf.old.writable) (L.state listen.old) (L.state listen.new)
         (shelved F.files F.faults shelf.old.folder) (shelved F.files F.faults shelf.new.folder) }
     ensures kind { shelf.new.kind ≡ shelf.old.kind }
     ensures kept { shelf.new.writable ≡ shelf.old.writable }
@@ -80,14 +82,14 @@ fn serve_at<L: Listen, F: Folder>(
     service: &Service,
     shelf: &mut ShelfState<F>,
 ) -> Result<(), IoFault>
-    requires kind { shelf.old.kind ≡ kinds.Sha512T256 }
     ensures end { OnOk result ((L.state listen.new).coming ≡ Some []) }
-    ensures served { OnOk result (Listens shelf.old.writable (L.state listen.old) (L.state listen.new)
+    ensures served { OnOk result (Listens shelf.old.kind shelf.old.writable (L.state listen.old) (L.state listen.new)
         (shelved F.files F.faults shelf.old.folder) (shelved F.files F.faults shelf.new.folder)) }
     ensures failed { result ≡ Err IoFault.Failed → Rose (L.state listen.old).faults (L.state listen.new).faults
-        × Listens shelf.old.writable (L.state listen.old) (L.state listen.new)
+        × Listens shelf.old.kind shelf.old.writable (L.state listen.old) (L.state listen.new)
         (shelved F.files F.faults shelf.old.folder) (shelved F.files F.faults shelf.new.folder) }
-    ensures lacking { result ≡ Err IoFault.Memory → RunsOut shelf.old.writable (L.state listen.old) (L.state listen.new)
+    ensures lacking { result ≡ Err IoFault.Memory →
+        RunsOut shelf.old.kind shelf.old.writable (L.state listen.old) (L.state listen.new)
         (shelved F.files F.faults shelf.old.folder) (shelved F.files F.faults shelf.new.folder) }
     ensures place { F.place shelf.new.folder ≡ F.place shelf.old.folder }
 {
@@ -126,10 +128,15 @@ fn serve_taken<F: Files, L: Listen>(
     requires folder { IsSome ((F.disk files.old).folder_counts store.now) }
     requires named { F.Folder.place taken ≡ store.now }
     requires fresh { F.Folder.faults taken ≡ 0 }
-    ensures { FolderServed true (heard F.Folder.never_fails (L.state listen.old) (L.state listen.new))
+    ensures { FolderServed service.now.kind true (heard F.Folder.never_fails (L.state listen.old) (L.state listen.new))
         service.now.writable store.now (F.Folder.files taken) (F.disk files.old) result (F.disk files.new) }
 {
-    let mut shelf = match ShelfState::new(alloc, taken.into_inner(), service.writable) {
+    let mut shelf = match ShelfState::with_kind(
+        alloc,
+        service.kind,
+        taken.into_inner(),
+        service.writable,
+    ) {
         Ok(shelf) => shelf,
         Err((folder, _)) => {
             give_folder(files, store, DirStore::new(folder));
@@ -167,9 +174,13 @@ where
     L::Link: Send,
     requires folder { IsSome ((F.disk files.old).folder_counts store.now) }
     requires named { F.Folder.place taken ≡ store.now }
-    ensures { FolderServed false (heard F.Folder.never_fails (L.state listen.old) (L.state listen.new))
+    ensures { FolderServed service.now.kind false (heard F.Folder.never_fails (L.state listen.old) (L.state listen.new))
         service.now.writable store.now (F.Folder.files taken) (F.disk files.old) result (F.disk files.new) }
 {
+    let rules = ShelfRules {
+        kind: service.kind,
+        writable: service.writable,
+    };
     let (folder, served) = serve_folder(
         rt,
         alloc,
@@ -177,7 +188,7 @@ where
         service.host.as_str(),
         service.port,
         taken.into_inner(),
-        service.writable,
+        rules,
     );
     give_folder(files, store, DirStore::new(folder));
     all_ended(served)
@@ -199,7 +210,7 @@ where
     requires folder { IsSome ((F.disk files.old).folder_counts store.now) }
     requires named { F.Folder.place taken ≡ store.now }
     requires fresh { F.Folder.faults taken ≡ 0 }
-    ensures { FolderServed (service.now.workers == 1)
+    ensures { FolderServed service.now.kind (service.now.workers == 1)
         (heard F.Folder.never_fails (L.state listen.old) (L.state listen.new)) service.now.writable store.now
         (F.Folder.files taken) (F.disk files.old) result (F.disk files.new) }
 {
@@ -223,8 +234,8 @@ where
     F::Folder: Send,
     L::Link: Send,
     ensures ends { (k : DialState) (p : Output) →
-        ChunkServerEnds (heard F.Folder.never_fails (L.state listen.old) (L.state listen.new)) store service.writable
-        service.workers (world (F.disk files.old) k p) result (world (F.disk files.new) k p) }
+        ChunkServerEnds service.kind (heard F.Folder.never_fails (L.state listen.old) (L.state listen.new)) store
+        service.writable service.workers (world (F.disk files.old) k p) result (world (F.disk files.new) k p) }
 {
     let taken = take_folder(alloc, files, store.as_str())?;
     serve_by(rt, alloc, files, listen, store.as_str(), taken, &service)?;

@@ -7,6 +7,7 @@ ghost use Rattle.dsy_base.specs.Links.{DialState};
 ghost use Rattle.store_commands.specs.Verify.{StoreVerified, VerifyEnds, answer_of_left, answer_of_verify};
 
 use crate::looks::{end_looks, open_looks};
+use chunk_store::id::DigestKind;
 use command_outcome::outcome::Outcome;
 use command_steps::taken_stores::{give_folder, take_folder};
 use dir_store::store::DirStore;
@@ -18,7 +19,16 @@ use dsy_base::name::Name;
 use dsy_base::sink::Sink;
 use std::alloc::Global;
 use std::thread::Threads;
-use store_check::verify::{StoreCheck, verify_store};
+use store_check::verify::{StoreCheck, verify_store_as};
+
+/// How a store is verified: which digest names its chunks, whether damaged chunk files are removed, and by how many
+/// workers.
+#[derive(Clone, Copy, Debug, PartialEq, Eq)]
+pub struct Verification {
+    pub kind: DigestKind,
+    pub repair: bool,
+    pub workers: u32,
+}
 
 // The answer where this many damaged chunk files are left.
 fn none_left(count: u64) -> Result<(), Outcome>
@@ -85,7 +95,7 @@ fn verify_taken<R: Threads + Sync, F: Files, O: Sink>(
     out: &mut O,
     store: &Name,
     taken: TakenStore<F::Folder, F::Look>,
-    repair: bool,
+    how: Verification,
 ) -> Result<(), Outcome>
 where
     F::Look: Send,
@@ -94,36 +104,43 @@ where
     requires fresh { F.Folder.faults taken.store ≡ 0 }
     requires places { All (λ l. F.Look.place l ≡ store.now) taken.looks.items }
     requires alike { All (λ l. IfSome (F.Folder.files taken.store) (λ m. F.Look.files l ≡ Some m)) taken.looks.items }
-    ensures { (k : DialState) → StoreVerified store.now repair (F.Folder.files taken.store)
+    ensures { (k : DialState) → StoreVerified how.kind store.now how.repair (F.Folder.files taken.store)
         (world (F.disk files.old) k (O.output out.old)) result (world (F.disk files.new) k (O.output out.new)) }
 {
     let TakenStore {
         store: mut folder,
         mut looks,
     } = taken;
-    let verified = verify_store(rt, alloc, &mut folder, &mut looks, repair, out);
+    let verified = verify_store_as(
+        rt,
+        alloc,
+        &mut folder,
+        how.kind,
+        &mut looks,
+        how.repair,
+        out,
+    );
     end_looks(files, looks);
     give_folder(files, store.as_str(), folder);
     outcome_of(verified)
 }
 
 /// Prints a line for each chunk file of STORE that is damaged, in the order of the ids, and removes it before with
-/// `repair`. So many workers read the files.
+/// `repair`.
 pub fn verify<R: Threads + Sync, F: ImageFiles, O: Sink>(
     rt: &R,
     alloc: Global,
     files: &mut F,
     out: &mut O,
     store: Name,
-    repair: bool,
-    workers: u32,
+    how: Verification,
 ) -> Result<(), Outcome>
 where
     F::Look: Send,
-    ensures ends { (k : DialState) → VerifyEnds store repair (world (F.disk files.old) k (O.output out.old)) result
-        (world (F.disk files.new) k (O.output out.new)) }
+    ensures ends { (k : DialState) → VerifyEnds how.kind store how.repair
+        (world (F.disk files.old) k (O.output out.old)) result (world (F.disk files.new) k (O.output out.new)) }
 {
-    let taken = take_store(alloc, files, &store, workers)?;
-    verify_taken(rt, alloc, files, out, &store, taken, repair)?;
+    let taken = take_store(alloc, files, &store, how.workers)?;
+    verify_taken(rt, alloc, files, out, &store, taken, how)?;
     Ok(())
 }

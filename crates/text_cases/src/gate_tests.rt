@@ -1,17 +1,19 @@
-//! Connections in memory that threads serve: the second is answered while the first waits in its first read; and of two
-//! of which one fails, the other has all its replies.
+//! Connections in memory that threads serve: the second is answered while the first waits in its first read; of two of
+//! which one fails, the other has all its replies; and chunks of another digest than the shelf's are refused.
 
 ghost use Rattle.std.specs.Prelude.{◌≡◌};
 
 use crate::pieces::pieces_of;
+use chunk_store::id::DigestKind;
 use dsy_base::fault::{Failed, IoFault, raise};
 use dsy_base::link::Link;
 use dsy_base::listen::Listen;
+use dsy_base::look::Look;
 use dsy_forms::mem_folder::MemFolder;
 use link_forms::mem_link::MemLink;
 use link_forms::mem_listen::MemListen;
 use locked_shelf::serve_all::AllServed;
-use locked_shelf::serve_folder::serve_folder;
+use locked_shelf::serve_folder::{ShelfRules, serve_folder};
 use std::alloc::Global;
 use std::process::Abort;
 use std::sync::atomic::{AtomicU64, Ordering};
@@ -23,6 +25,11 @@ use std::thread::Threads;
 const TURNS: u64 = 10_000_000;
 
 const REQUEST: &[u8] = b"GET /nothing HTTP/1.1\r\n\r\n";
+
+const USUAL: ShelfRules = ShelfRules {
+    kind: DigestKind::Sha512T256,
+    writable: true,
+};
 
 // A connection on which one request comes. The first one waits for it, and the other one tells that it was answered.
 #[derive(Drop)]
@@ -146,7 +153,7 @@ fn serve_two<R: Abort + Threads + Wait + Sync>(rt: &R, alloc: Global) {
         faults: 0,
     };
     let folder = MemFolder::new(alloc, Vec::new(alloc));
-    let (_, served) = serve_folder(rt, alloc, &mut listen, "", 0, folder, true);
+    let (_, served) = serve_folder(rt, alloc, &mut listen, "", 0, folder, USUAL);
     assert!(rt; served == AllServed::ListenFault, "the listener has failed");
     assert!(rt; listen.ended == 2, "both connections have ended");
     assert!(rt;
@@ -168,7 +175,7 @@ fn one_fails<R: Abort + Threads + Wait + Sync>(rt: &R, alloc: Global) {
         .expect(rt, "no memory");
     let mut listen = MemListen::new(alloc, links, Vec::new(alloc));
     let folder = MemFolder::new(alloc, Vec::new(alloc));
-    let (_, served) = serve_folder(rt, alloc, &mut listen, "", 0, folder, true);
+    let (_, served) = serve_folder(rt, alloc, &mut listen, "", 0, folder, USUAL);
     assert!(rt; served == AllServed::Ended, "no more connections come");
     let (Some(a), Some(b)) = (listen.ended(0), listen.ended(1)) else {
         rt.panic("two have ended");
@@ -185,6 +192,39 @@ fn one_fails<R: Abort + Threads + Wait + Sync>(rt: &R, alloc: Global) {
     );
 }
 
+// The digests of `abc` by SHA-512/256 and by SHA-256 (FIPS 180-4's example messages), in two requests.
+const BOTH_PUTS: &[u8] = b"\
+PUT /5304/53048e2681941ef99b2e29b76b4c7dabe4c2d0c634fc6d46e0e2f13107e7af23 HTTP/1.1\r\nContent-Length: 3\r\n\r\nabc\
+PUT /ba78/ba7816bf8f01cfea414140de5dae2223b00361a396177a9cb410ff61f20015ad HTTP/1.1\r\nContent-Length: 3\r\n\r\nabc";
+
+const BOTH_REPLIES: &[u8] = b"\
+HTTP/1.1 400 Bad Request\r\nContent-Length: 0\r\n\r\nHTTP/1.1 200 OK\r\nContent-Length: 0\r\n\r\n";
+
+const PATH: &str = "ba78/ba7816bf8f01cfea414140de5dae2223b00361a396177a9cb410ff61f20015ad";
+
+// `abc` is put under both of its digests, into a shelf whose chunks are named by SHA-256.
+fn one_is_taken<R: Abort + Threads + Wait + Sync>(rt: &R, alloc: Global) {
+    let mut links = Vec::new(alloc);
+    links
+        .push(MemLink::new(alloc, pieces_of(rt, alloc, BOTH_PUTS, 64), Vec::new(alloc)))
+        .expect(rt, "no memory");
+    let mut listen = MemListen::new(alloc, links, Vec::new(alloc));
+    let folder = MemFolder::new(alloc, Vec::new(alloc));
+    let rules = ShelfRules {
+        kind: DigestKind::Sha256,
+        writable: true,
+    };
+    let (mut folder, served) = serve_folder(rt, alloc, &mut listen, "", 0, folder, rules);
+    assert!(rt; served == AllServed::Ended, "no more connections come");
+    let Some(link) = listen.ended(0) else {
+        rt.panic("it has ended");
+    };
+    assert!(rt; link.sent() == BOTH_REPLIES, "the other digest is refused");
+    let names = folder.names().expect(rt, "no memory");
+    assert!(rt; names.len() == 1, "one file is there");
+    assert!(rt; names[0].as_str() == PATH, "under its digest");
+}
+
 #[test]
 fn the_second_is_answered_while_the_first_waits(rt: HostRuntime) {
     serve_two(&rt, rt.alloc());
@@ -193,4 +233,9 @@ fn the_second_is_answered_while_the_first_waits(rt: HostRuntime) {
 #[test]
 fn a_failed_connection_ends_alone(rt: HostRuntime) {
     one_fails(&rt, rt.alloc());
+}
+
+#[test]
+fn chunks_of_another_digest_are_refused(rt: HostRuntime) {
+    one_is_taken(&rt, rt.alloc());
 }

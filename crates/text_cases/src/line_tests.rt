@@ -1,6 +1,7 @@
 //! Words that are refused, with their places, and words that are read.
 
 use crate::compare::{ok, same};
+use chunk_store::id::DigestKind;
 use command_line::read_words;
 use command_words::command::{Command, Location};
 use command_words::usage::WordsFault;
@@ -71,6 +72,21 @@ chunk-server -s st -> 3 MissingOption
 chunk-server -s st -l h:0 -> 4 BadListen
 chunk-server -s st -l h:65536 -> 4 BadListen
 chunk-server -s st -l h -> 4 BadListen
+make --digest md5 -s st a b -> 2 BadDigest
+make --digest '' -s st a b -> 2 BadDigest
+make -s st --digest SHA256 a b -> 4 BadDigest
+make --digest sha256 --digest sha256 -s st a b -> 3 TooMany
+make -s st a b --digest -> 6 NoValue
+verify -s st --digest sha512 -> 4 BadDigest
+chunk-server -s st -l h:1 --digest sha512/256 -> 6 BadDigest
+demo --digest sha-256 1 1 -> 2 BadDigest
+extract --digest sha256 -s st i o -> 1 UnknownOption
+verify-index --digest sha256 i o -> 1 UnknownOption
+chop -s st --digest sha256 i o -> 3 UnknownOption
+cache -s st -c c --digest sha256 i -> 5 UnknownOption
+list-chunks --digest sha256 i -> 1 UnknownOption
+info --digest sha256 i -> 1 UnknownOption
+prune -s st -y --digest sha256 i -> 4 UnknownOption
 demo 1 536870913 -> 2 BadNumber
 demo 18446744073709551616 1 -> 1 BadNumber
 demo '' 1 -> 1 Empty
@@ -225,12 +241,44 @@ fn words_of_verify_are_read(rt: HostRuntime) {
                 store,
                 repair,
                 workers,
+                digest,
             },
         ) => {
             same(&rt, store.as_str(), "st");
             same(&rt, repair, true);
             same(&rt, workers, 3);
+            same(&rt, digest, DigestKind::Sha512T256);
         }
         _ => rt.panic("refused"),
     }
+}
+
+// The kind of digest that words state, if their command takes one.
+fn digest_stated(words: &Result<Command, WordsFault>) -> Option<DigestKind> {
+    match words {
+        Ok(Command::Make { digest, .. }) => Some(*digest),
+        Ok(Command::Verify { digest, .. }) => Some(*digest),
+        Ok(Command::ChunkServer { digest, .. }) => Some(*digest),
+        Ok(Command::Demo { digest, .. }) => Some(*digest),
+        _ => None,
+    }
+}
+
+fn states(rt: &impl Abort, alloc: Global, line: &str, kind: DigestKind) {
+    let read = read_words(alloc, &words_of(rt, alloc, line));
+    same(rt, digest_stated(&read), Some(kind));
+}
+
+#[test]
+#[rattlefmt::skip]
+fn four_commands_state_a_kind_of_digest(rt: HostRuntime) {
+    let alloc = rt.alloc();
+    states(&rt, alloc, "make -s st i o", DigestKind::Sha512T256);
+    states(&rt, alloc, "make -s st --digest sha512-256 i o", DigestKind::Sha512T256);
+    states(&rt, alloc, "make -s st i o --digest sha256", DigestKind::Sha256);
+    states(&rt, alloc, "verify --digest sha256 -s st", DigestKind::Sha256);
+    states(&rt, alloc, "chunk-server -s st -l h:1", DigestKind::Sha512T256);
+    states(&rt, alloc, "chunk-server -s st -l h:1 --digest sha256", DigestKind::Sha256);
+    states(&rt, alloc, "demo 1 1", DigestKind::Sha512T256);
+    states(&rt, alloc, "demo --digest sha256 1 1", DigestKind::Sha256);
 }

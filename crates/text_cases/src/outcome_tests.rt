@@ -99,8 +99,6 @@ fn each_fault_of_an_index_has_its_text(rt: HostRuntime) {
     fault_is(&rt, alloc, IndexFault::Table, "desync: i: bad index: no table head\n");
     fault_is(&rt, alloc, IndexFault::Tail, "desync: i: bad index: bad table tail\n");
     fault_is(&rt, alloc, IndexFault::Trailing, "desync: i: bad index: bytes after the tail\n");
-    fault_is(&rt, alloc, IndexFault::Digest { flags: 0x0abc },
-        "desync: i: bad index: digest flag missing in flags 0000000000000abc\n");
     fault_is(&rt, alloc, IndexFault::MaxSize { max: 67_108_865 }, "desync: i: bad index: greatest size 67108865 is \
         over the limit\n");
     fault_is(&rt, alloc, IndexFault::Items, "desync: i: bad index: too many entries\n");
@@ -116,6 +114,7 @@ fn faulty_words_are_told_by_place_and_reason(rt: HostRuntime) {
     usage_is(&rt, alloc, UsageWhy::NoCommand, "desync: word 5: NoCommand\n");
     usage_is(&rt, alloc, UsageWhy::UnknownCommand, "desync: word 5: UnknownCommand\n");
     usage_is(&rt, alloc, UsageWhy::BadLocation, "desync: word 5: BadLocation\n");
+    usage_is(&rt, alloc, UsageWhy::BadDigest, "desync: word 5: BadDigest\n");
     usage_is(&rt, alloc, UsageWhy::MissingOption, "desync: word 5: MissingOption\n");
 }
 

@@ -1,3 +1,4 @@
+use Rattle.chunk_store.specs.Kinds.{kind_named}
 use Rattle.locked_shelf.specs.Endings.{EndsOver}
 use Rattle.locked_shelf.specs.Listening.{GivesBack}
 use Rattle.locked_shelf.proofs.serve_all.make_room.Given as goal
@@ -5,5 +6,5 @@ use Rattle.locked_shelf.proofs.serve_all.make_room.Given as goal
 -- those that had ended were given back
 abbrev pub invariant-rounds : goal.invariant-rounds
 invariant-rounds g l = record {
-  ended : GivesBack (EndsOver g.F.Folder.opening g.F.Look.never_fails g.M.Mode.writable g.L.Link.Link.tells) (g.L.Listen.state l.fn.listen) (g.L.Listen.state l.listen) l.fn.tally l.tally;
+  ended : GivesBack (EndsOver (kind_named g.F.Folder.kind) g.F.Folder.opening g.F.Look.never_fails g.M.Mode.writable g.L.Link.Link.tells) (g.L.Listen.state l.fn.listen) (g.L.Listen.state l.listen) l.fn.tally l.tally;
 }

@@ -27,7 +27,7 @@ close_sources-requires g c =
     let opened = c.in_ok-opened.ensures in
     let before = c.in_ok-opened.opened.items in
     let after = c.count_in_store-counted.new.chain.stores in
-    let kept = rw c.new-chain.ensures.value at c.count_in_store-counted.ensures.kept in
+    let kept = rw c.with_kind-chain.ensures.value at c.count_in_store-counted.ensures.kept in
     let located = stand_still place before after kept.places ∙ opened.located in
     let known = subst (λ (l : List Location). All (IsKnown (at c.open_sources.new.files).folder_counts) l) (sym located) opened.known in
     record { known = rw c.into_stores.ensures.value known }
@@ -43,7 +43,7 @@ returns-in-Ok-clause-counted g c =
     let opened = c.in_ok-opened.ensures in
     let before = c.in_ok-opened.opened.items in
     let after = c.count_in_store-counted.new.chain.stores in
-    let kept = rw c.new-chain.ensures.value at c.count_in_store-counted.ensures.kept in
+    let kept = rw c.with_kind-chain.ensures.value at c.count_in_store-counted.ensures.kept in
     let located = stand_still place before after kept.places ∙ opened.located in
     let state = g.D.Dial.state in
     let files = source_files g.F.Look.Look.files in
@@ -64,7 +64,7 @@ returns-in-Ok-clause-counted g c =
         there = opened.there;
         size = c.in-Ok.ensures.size;
         denied = others_denied (location_in place) said faults w v c.args.index.now c.in-Ok.n after stores located stand c.in-Ok.ensures.absent;
-        counts = counted_told d.folders stores c.args.index.now files before c.in-Ok.n opened.found (rw c.new-chain.ensures.value at c.in-Ok.ensures.value);
+        counts = counted_told d.folders stores c.args.index.now files before c.in-Ok.n opened.found (rw c.with_kind-chain.ensures.value at c.in-Ok.ensures.value);
       },
     )
 
@@ -75,7 +75,7 @@ returns-in-Ok-clause-kept g c =
     let opened = c.in_ok-opened.ensures in
     let before = c.in_ok-opened.opened.items in
     let after = c.count_in_store-counted.new.chain.stores in
-    let kept = rw c.new-chain.ensures.value at c.count_in_store-counted.ensures.kept in
+    let kept = rw c.with_kind-chain.ensures.value at c.count_in_store-counted.ensures.kept in
     let located = stand_still place before after kept.places ∙ opened.located in
     let closed = rw c.into_stores.ensures.value at c.close_sources.ensures.kept in
     let now = storage (at c.close_sources.new.files) (g.D.Dial.state c.close_sources.new.dial) in
@@ -89,7 +89,7 @@ returns-in-StoreFault-clause-kept g c =
     let opened = c.in_ok-opened.ensures in
     let before = c.in_ok-opened.opened.items in
     let after = c.count_in_store-counted.new.chain.stores in
-    let kept = rw c.new-chain.ensures.value at c.count_in_store-counted.ensures.kept in
+    let kept = rw c.with_kind-chain.ensures.value at c.count_in_store-counted.ensures.kept in
     let located = stand_still place before after kept.places ∙ opened.located in
     let closed = rw c.into_stores.ensures.value at c.close_sources.ensures.kept in
     let now = storage (at c.close_sources.new.files) (g.D.Dial.state c.close_sources.new.dial) in
@@ -103,7 +103,7 @@ returns-in-Memory-clause-kept g c =
     let opened = c.in_ok-opened.ensures in
     let before = c.in_ok-opened.opened.items in
     let after = c.count_in_store-counted.new.chain.stores in
-    let kept = rw c.new-chain.ensures.value at c.count_in_store-counted.ensures.kept in
+    let kept = rw c.with_kind-chain.ensures.value at c.count_in_store-counted.ensures.kept in
     let located = stand_still place before after kept.places ∙ opened.located in
     let closed = rw c.into_stores.ensures.value at c.close_sources.ensures.kept in
     let now = storage (at c.close_sources.new.files) (g.D.Dial.state c.close_sources.new.dial) in
@@ -117,7 +117,7 @@ returns-in-StoreFault-clause-counted g c =
     let opened = c.in_ok-opened.ensures in
     let before = c.in_ok-opened.opened.items in
     let after = c.count_in_store-counted.new.chain.stores in
-    let kept = rw c.new-chain.ensures.value at c.count_in_store-counted.ensures.kept in
+    let kept = rw c.with_kind-chain.ensures.value at c.count_in_store-counted.ensures.kept in
     let located = stand_still place before after kept.places ∙ opened.located in
     let state = g.D.Dial.state in
     let files = source_files g.F.Look.Look.files in
@@ -134,7 +134,7 @@ returns-in-StoreFault-clause-counted g c =
     let given : All (IsGiven place g.F.Look.Look.faults state w v) after = λ n s lt. given_earlier place g.F.Look.Look.faults state w mid v opened.kept.folder_counts (dials_none k) dialed (slice_index_or after n s) (closed n s lt) in
     let stand = all_stand g.F.Look.Look.files place g.F.Look.Look.faults state w v after stores located (held_after d.folders stores files before after opened.found kept.files) given in
     let many = length_all_zip (λ a b. (q : List ℕ) → KeepsOf (said a) (said b) q) before after kept.says in
-    let last = ended_by (chunks_in g.F.Look.Look.files) said (asked_in method.Head state) faults c.args.index.now before after c.in-Err.fault c.in-StoreFault.store c.in-StoreFault.is many (rw c.new-chain.ensures.value at c.in-Err.ensures.first) in
+    let last = ended_by (chunks_in g.F.Look.Look.files) said (asked_in method.Head state) faults c.args.index.now before after c.in-Err.fault c.in-StoreFault.store c.in-StoreFault.is many (rw c.with_kind-chain.ensures.value at c.in-Err.ensures.first) in
     let id = id_of c.args.index.now last.entry in
     inr (
       opened.there,
@@ -152,11 +152,11 @@ returns-in-Ok-clause-asks g c =
     let opened = c.in_ok-opened.ensures in
     let before = c.in_ok-opened.opened.items in
     let after = c.count_in_store-counted.new.chain.stores in
-    let kept = rw c.new-chain.ensures.value at c.count_in_store-counted.ensures.kept in
+    let kept = rw c.with_kind-chain.ensures.value at c.count_in_store-counted.ensures.kept in
     let located = stand_still place before after kept.places ∙ opened.located in
     let ended = rw c.into_stores.ensures.value at c.close_sources.ensures.ended in
-    let asked = rw c.new-chain.ensures.value at c.count_in_store-counted.ensures.asks.stores in
-    let queried = rw c.new-chain.ensures.value at c.count_in_store-counted.ensures.queries in
+    let asked = rw c.with_kind-chain.ensures.value at c.count_in_store-counted.ensures.asks.stores in
+    let queried = rw c.with_kind-chain.ensures.value at c.count_in_store-counted.ensures.queries in
     each_asked_only place state (λ id. 0) (asks_once c.args.index.now) (IsListedHas c.args.index.now) before after c.args.stores.now (state c.args.dial.now).ended (state c.close_sources.new.dial).ended opened.unused
     (none_more (asked_in method.Get state) before after asked) (each_once (asked_in method.Head state) c.args.index.now before after queried) kept.sends located ended
 
@@ -167,11 +167,11 @@ returns-in-StoreFault-clause-asks g c =
     let opened = c.in_ok-opened.ensures in
     let before = c.in_ok-opened.opened.items in
     let after = c.count_in_store-counted.new.chain.stores in
-    let kept = rw c.new-chain.ensures.value at c.count_in_store-counted.ensures.kept in
+    let kept = rw c.with_kind-chain.ensures.value at c.count_in_store-counted.ensures.kept in
     let located = stand_still place before after kept.places ∙ opened.located in
     let ended = rw c.into_stores.ensures.value at c.close_sources.ensures.ended in
-    let asked = rw c.new-chain.ensures.value at c.count_in_store-counted.ensures.asks.stores in
-    let queried = rw c.new-chain.ensures.value at c.count_in_store-counted.ensures.queries in
+    let asked = rw c.with_kind-chain.ensures.value at c.count_in_store-counted.ensures.asks.stores in
+    let queried = rw c.with_kind-chain.ensures.value at c.count_in_store-counted.ensures.queries in
     each_asked_only place state (λ id. 0) (asks_once c.args.index.now) (IsListedHas c.args.index.now) before after c.args.stores.now (state c.args.dial.now).ended (state c.close_sources.new.dial).ended opened.unused
     (none_more (asked_in method.Get state) before after asked) (each_once (asked_in method.Head state) c.args.index.now before after queried) kept.sends located ended
 
@@ -182,11 +182,11 @@ returns-in-Memory-clause-asks g c =
     let opened = c.in_ok-opened.ensures in
     let before = c.in_ok-opened.opened.items in
     let after = c.count_in_store-counted.new.chain.stores in
-    let kept = rw c.new-chain.ensures.value at c.count_in_store-counted.ensures.kept in
+    let kept = rw c.with_kind-chain.ensures.value at c.count_in_store-counted.ensures.kept in
     let located = stand_still place before after kept.places ∙ opened.located in
     let ended = rw c.into_stores.ensures.value at c.close_sources.ensures.ended in
-    let asked = rw c.new-chain.ensures.value at c.count_in_store-counted.ensures.asks.stores in
-    let queried = rw c.new-chain.ensures.value at c.count_in_store-counted.ensures.queries in
+    let asked = rw c.with_kind-chain.ensures.value at c.count_in_store-counted.ensures.asks.stores in
+    let queried = rw c.with_kind-chain.ensures.value at c.count_in_store-counted.ensures.queries in
     each_asked_only place state (λ id. 0) (asks_once c.args.index.now) (IsListedHas c.args.index.now) before after c.args.stores.now (state c.args.dial.now).ended (state c.close_sources.new.dial).ended opened.unused
     (none_more (asked_in method.Get state) before after asked) (each_once (asked_in method.Head state) c.args.index.now before after queried) kept.sends located ended
 

@@ -3,7 +3,6 @@ use Rattle.std.specs.Option.{option_map}
 use Rattle.command_outcome.specs.declared.outcome.Outcome.{Outcome}
 use Rattle.dsy_base.specs.Disk.{GivesFolder}
 use Rattle.dsy_base.specs.Maps.{at_name}
-use Rattle.chunk_store.specs.declared.id.DigestKind.TheVariants as kinds
 use Rattle.locked_shelf.specs.Endings.{EndsOver}
 use Rattle.locked_shelf.specs.Keepings.{KeepsOpening}
 use Rattle.locked_shelf.specs.Listening.{ServesAll, ServesSome}
@@ -27,12 +26,13 @@ returns g c =
     let counts = subst (λ f. GivesFolder d e q (D.faults f)) given c.give_folder.ensures.counts in
     let folders = subst (λ f. e.folders ≡ option_map (λ m. at_name m q (D.files f)) d.folders) given c.give_folder.ensures.folders in
     let tells = λ (is : is_some (state c.args.listen.now).coming ≡ true). g.met.L.Listen.alike (sym (g.met.L.Listen.told c.args.listen.now).0 ∙ is) in
+    let kind = c.args.service.now.kind in
     let writable = c.args.service.now.writable in
     let folder = c.serve_folder-folder.result.0 in
     let r = c.serve_folder-folder.result.1 in
     let same = c.into_inner.ensures in
-    let kept = subst (λ f. IfSome (D.files f) (λ first. KeepsOpening kinds.Sha512T256 first (D.files folder))) same serve.kept in
-    let served = subst (λ f. r ≢ shared.Memory → ServesAll (EndsOver (D.files f) D.never_fails writable g.L.Link.Link.tells) h.old h.new) same serve.served in
-    let lacking = subst (λ f. ServesSome (EndsOver (D.files f) D.never_fails writable g.L.Link.Link.tells) h.old h.new) same serve.lacking in
-    subst (λ (o : Result Unit Outcome). FolderServed false h writable q held d o e) (sym c.all_ended.ensures)
-    (sharing_ends D.files D.faults h writable q held folder d e counts folders g.L.Link.Link.tells tells kept r serve.end served lacking serve.cause)
+    let kept = subst (λ f. IfSome (D.files f) (λ first. KeepsOpening kind first (D.files folder))) same serve.kept in
+    let served = subst (λ f. r ≢ shared.Memory → ServesAll (EndsOver kind (D.files f) D.never_fails writable g.L.Link.Link.tells) h.old h.new) same serve.served in
+    let lacking = subst (λ f. ServesSome (EndsOver kind (D.files f) D.never_fails writable g.L.Link.Link.tells) h.old h.new) same serve.lacking in
+    subst (λ (o : Result Unit Outcome). FolderServed kind false h writable q held d o e) (sym c.all_ended.ensures)
+    (sharing_ends D.files D.faults kind h writable q held folder d e counts folders g.L.Link.Link.tells tells kept r serve.end served lacking serve.cause)

@@ -1,15 +1,15 @@
 use Rattle.std.proofs.Common.{◌∙◌}
-use Rattle.chunk_store.specs.declared.id.DigestKind.TheVariants as kinds
+use Rattle.chunk_store.specs.Kinds.{kind_named}
 use Rattle.locked_shelf.proofs.Keeping.{kept_read, reads_kept}
 use Rattle.locked_shelf.proofs.kept.Kept.read.Goals as goal
 
 pub invariant_of-self : goal.invariant_of-self
 invariant_of-self g c = (
   c.read.ensures.kind ∙ c.self.invariant.0,
-  kept_read kinds.Sha512T256 g.F.Folder.opening c.args.id.now.0 _ _ _ c.read.ensures.bytes c.self.invariant.1,
+  kept_read (kind_named g.F.Folder.kind) g.F.Folder.opening c.args.id.now.0 _ _ _ c.read.ensures.bytes c.self.invariant.1,
 )
 
 pub returns : goal.returns
 returns g c = record {
-  bytes = reads_kept kinds.Sha512T256 g.F.Folder.opening g.F.Look.never_fails c.args.id.now.0 _ _ _ (g.met.F.Look.sure _) (g.met.F.Look.sure _) c.read.ensures.bytes c.self.invariant.1;
+  bytes = reads_kept (kind_named g.F.Folder.kind) g.F.Folder.opening g.F.Look.never_fails c.args.id.now.0 _ _ _ (g.met.F.Look.sure _) (g.met.F.Look.sure _) c.read.ensures.bytes c.self.invariant.1;
 }
