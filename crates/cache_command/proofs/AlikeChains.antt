@@ -6,7 +6,6 @@ use Rattle.std.specs.Option.{option_map}
 use Rattle.cache_command.specs.Filling.{JustOpened}
 use Rattle.cache_store.specs.Shelves.{Shelf}
 use Rattle.chunk_store.specs.Folders.{chunks}
-use Rattle.chunk_store.specs.declared.id.DigestKind.TheVariants as digests
 use Rattle.chunk_store.specs.declared.store.Store.{Ghosts as StoreWords}
 use Rattle.command_steps.proofs.Given.{all_later}
 use Rattle.cache_command.proofs.LentChains.{chains_later}
@@ -65,10 +64,10 @@ module _ {L D K : Type 0} (files : L → Option (Map (List ℕ))) where
 module _ {L D K : Type 0} (look : LookWords L) (state : D → DialState) (store : StoreWords (AnyStore L D K)) (holds_are : store.holds ≡ chunks_in look.files) where
   -- the stores of the first worker were opened, those of the further ones, and the folder of the cache was taken
   pub just_reached : (tells : Bool) → ((l : L) → is_some (look.files l) ≡ look.tells) → (IsTrue look.tells → IsTrue tells) → (d a b m : Disk) (s t : Shelf) (cache : List ℕ) (names : List Location) (first : Chained (AnyStore L D K)) (xs : List (AnyStore L D K)) (more cs : List (Chained (AnyStore L D K)))
-      → s ≡ t → first.stores ≡ xs → more ≡ cs → first.kind ≡ digests.Sha512T256 → is_some a.folders ≡ tells → Reads d a → Reads a b → Reads b (with_cache (Some t) m) → map (location_in look.place) xs ≡ names
+      → s ≡ t → first.stores ≡ xs → more ≡ cs → is_some a.folders ≡ tells → Reads d a → Reads a b → Reads b (with_cache (Some t) m) → map (location_in look.place) xs ≡ names
       → IfSome d.folders (λ x. map (source_files look.files) xs ≡ map (location_files x) names) → map (source_faults look.faults state) xs ≡ map {B = ℕ} (λ q. 0) names → All (IsUnused state) xs → All (IsKnown a.folder_counts) names → All (IsChainOpened look state a b names) cs
       → t.place ≡ cache → IsSome (m.folder_counts cache) → t.faults ≡ 0 → JustOpened look state store m cache s first more
-  just_reached tells told seen d a b m s t cache names first xs more cs shelf_is stores_are more_are kind tells_are opened_read further_read taken_read at_names found fresh unused known opened named cache_known unfailed =
+  just_reached tells told seen d a b m s t cache names first xs more cs shelf_is stores_are more_are tells_are opened_read further_read taken_read at_names found fresh unused known opened named cache_known unfailed =
       let located : chain_stores look first ≡ names = ap (map (location_in look.place)) stores_are ∙ at_names in
       let opened_all : All (IsChainOpened look state a b names) more = subst (λ l. All (IsChainOpened look state a b names) l) (sym more_are) opened in
       let known_then : All (IsKnown m.folder_counts) names = all_later a.folder_counts m.folder_counts (λ q is. taken_read.folder_known q (further_read.folder_known q is)) names known in
@@ -87,8 +86,6 @@ module _ {L D K : Type 0} (look : LookWords L) (state : D → DialState) (store 
         given = All-cons (CanGiveChain look m) first more given_first given_more;
         located = λ n c lt. (opened_all n c lt).located ∙ sym located;
         alike = record {
-          kind = kind;
-          kinds = λ n c lt. (opened_all n c lt).kind;
           held = λ n c lt. let is = opened_all n c lt in
               subst (λ f. map f (slice_index_or more n c).stores ≡ map f first.stores) (sym holds_are)
               (hold_alike look.files tells look.tells told seen a.folders tells_are names look.place (slice_index_or more n c).stores first.stores is.located located is.found found_here);

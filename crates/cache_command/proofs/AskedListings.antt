@@ -1,5 +1,5 @@
 -- How the stores of all workers are asked while a cache is filled by indexes in order.
-use Rattle.std.proofs.Common.{◌≡◌, ℕ, ◌+◌, ◌≤◌, List, [], ◌∷◌, All, map, max, IfSome, inl, inr, refl, sym, subst, ◌∙◌, arith}
+use Rattle.std.proofs.Common.{◌≡◌, ℕ, ◌+◌, ◌≤◌, List, [], ◌∷◌, All, ap, map, max, IfSome, inl, inr, refl, sym, subst, ◌∙◌, arith}
 use Rattle.std.proofs.lemmas.List.Elements.{All-cons, All-head, All-nil, All-tail}
 use Rattle.std.specs.List.{AllZip}
 use Rattle.cache_command.specs.Caching.{FilledBetween, FrontListed, IsGetAmong, listed_times}
@@ -7,7 +7,6 @@ use Rattle.cache_command.specs.Filling.{AsksListings, HoldAlike}
 use Rattle.cache_fill.specs.Filling.{AsksEntries, FetchesAhead}
 use Rattle.caibx_codec.specs.Asks.{IsListedGet}
 use Rattle.caibx_codec.specs.Listing.{Listing, count_of}
-use Rattle.chunk_store.specs.declared.id.DigestKind.TheVariants as digests
 use Rattle.chunk_store.specs.declared.store.Store.{Ghosts as StoreWords}
 use Rattle.command_outcome.specs.declared.outcome.Outcome.{Outcome}
 use Rattle.command_steps.proofs.Asking.{none_more}
@@ -61,12 +60,46 @@ module _ {S : Type 0} (store : StoreWords S) where
   all_listed l c d cs ds asks keeps ahead = (listed_by l c d asks keeps, each_weaker (FetchesAhead store l) (AsksListings store (l ∷ [])) (λ a b h. listed_by l a b h.asks h.stores) cs ds ahead)
 
   -- what they hold they hold still
-  pub alike_on : (l : Listing) (c d : Chained S) (cs ds : List (Chained S)) → d.kind ≡ c.kind → map store.holds d.stores ≡ map store.holds c.stores → AllZip (FetchesAhead store l) cs ds → HoldAlike store c cs → HoldAlike store d ds
-  alike_on l c d cs ds kind held ahead alike = record {
-    kind = kind ∙ alike.kind;
-    kinds = all_through (λ a. a.kind ≡ digests.Sha512T256) (λ b. b.kind ≡ digests.Sha512T256) (FetchesAhead store l) (λ a b h is. h.asks.kind ∙ is) cs ds ahead alike.kinds;
+  pub alike_on : (l : Listing) (c d : Chained S) (cs ds : List (Chained S)) → map store.holds d.stores ≡ map store.holds c.stores → AllZip (FetchesAhead store l) cs ds → HoldAlike store c cs → HoldAlike store d ds
+  alike_on l c d cs ds held ahead alike = record {
     held = all_through (λ a. map store.holds a.stores ≡ map store.holds c.stores) (λ b. map store.holds b.stores ≡ map store.holds d.stores) (FetchesAhead store l) (λ a b h is. h.stores.held ∙ is ∙ sym held) cs ds ahead alike.held;
   }
+
+  -- ---- by chains that were made anew, of the same stores
+
+  abbrev StoresOf : List (Chained S) → List (List S)
+  StoresOf cs = map (λ c. c.stores) cs
+
+  remade_all : (P : List S → Type 0) (cs ds : List (Chained S)) → StoresOf ds ≡ StoresOf cs → All (λ c. P c.stores) cs → All (λ d. P d.stores) ds
+  remade_all P cs [] same h = All-nil (λ d. P d.stores)
+  remade_all P [] (d ∷ ds) same h = absurd (cc)
+  remade_all P (c ∷ cs) (d ∷ ds) same h =
+      let here : d.stores ≡ c.stores = cc in
+      let rest : StoresOf ds ≡ StoresOf cs = cc in
+      All-cons (λ x. P x.stores) d ds (subst P (sym here) (All-head (λ x. P x.stores) c cs h)) (remade_all P cs ds rest (All-tail (λ x. P x.stores) c cs h))
+
+  pub remade_alike : (c d : Chained S) (cs ds : List (Chained S)) → d.stores ≡ c.stores → StoresOf ds ≡ StoresOf cs → HoldAlike store c cs → HoldAlike store d ds
+  remade_alike c d cs ds first same alike = record {
+    held = remade_all (λ xs. map store.holds xs ≡ map store.holds d.stores) cs ds same
+        (subst (λ ys. All (λ x. map store.holds x.stores ≡ map store.holds ys) cs) (sym first) alike.held);
+  }
+
+  remade_asks : (ls : List Listing) (c d e : Chained S) → d.stores ≡ c.stores → AsksListings store ls d e → AsksListings store ls c e
+  remade_asks ls c d e same h = record {
+    gets = subst (λ xs. AllZip (Few ls) xs e.stores) same h.gets;
+    heads = h.heads ∙ ap (map store.queried) same;
+    keeps = subst (λ xs. KeepsStores store (IsGetAmong ls) xs e.stores) same h.keeps;
+  }
+
+  pub remade_asked : (ls : List Listing) (cs ds es : List (Chained S)) → StoresOf ds ≡ StoresOf cs → AllZip (AsksListings store ls) ds es → AllZip (AsksListings store ls) cs es
+  remade_asked ls [] [] es same h = h
+  remade_asked ls [] (d ∷ ds) es same h = absurd (cc)
+  remade_asked ls (c ∷ cs) [] es same h = absurd (cc)
+  remade_asked ls (c ∷ cs) (d ∷ ds) [] same h = absurd h
+  remade_asked ls (c ∷ cs) (d ∷ ds) (e ∷ es) same h =
+      let here : d.stores ≡ c.stores = cc in
+      let rest : StoresOf ds ≡ StoresOf cs = cc in
+      (remade_asks ls c d e here h.0, remade_asked ls cs ds es rest h.1)
 
   -- ---- by one after the other
 

@@ -1,24 +1,18 @@
 -- Chains that are opened, and given back.
-use Rattle.std.proofs.Common.{◌≡◌, ◌∙◌, ◌++◌, ℕ, suc, ◌+◌, ◌<◌, ◌≤◌, List, [], ◌∷◌, length, slice_index_or, All, Option, Result, Ok, is_ok, if◌then◌else◌, refl, sym, ap, subst, arith}
-use Rattle.std.proofs.Math.Seq.{get_or-append_seam}
-use Rattle.std.proofs.lemmas.List.{get_or_append_left, length-append}
-use Rattle.std.specs.List.{insert, remove}
-use Rattle.command_steps.proofs.Consulted.{consults_none, consults_twice}
+use Rattle.std.proofs.Common.{◌≡◌, ◌∙◌, suc, List, [], ◌∷◌, slice_index_or, All, sym, ap, subst, arith}
 use Rattle.command_steps.proofs.Given.{all_later}
 use Rattle.command_steps.specs.AnyStores.{source_files}
-use Rattle.command_steps.specs.Asking.{EachDialed, WorkersDialed}
 use Rattle.cache_command.specs.Chains.{CanGiveChain, IsChainGiven, IsChainOpened, chain_stores}
 use Rattle.command_steps.proofs.InTurn.{turn_consults}
 use Rattle.command_steps.specs.Turns.{GivenInTurn}
-use Rattle.command_steps.specs.Sources.{Consults, ConsultsStores, Storage, location_files}
+use Rattle.command_steps.specs.Sources.{ConsultsStores, Storage, location_files}
 use Rattle.command_steps.specs.Stores.{are_folders}
 use Rattle.command_steps.specs.declared.any_store.AnyStore.{AnyStore}
 use Rattle.command_words.specs.declared.command.Location.{Location}
 use Rattle.command_worlds.specs.Worlds.{Reads}
 use Rattle.dsy_base.specs.Disk.{Disk}
-use Rattle.dsy_base.specs.Links.{DialState, Traffic}
+use Rattle.dsy_base.specs.Links.{DialState}
 use Rattle.dsy_base.specs.declared.look.Look.{Ghosts as LookWords}
-use Rattle.http_read.specs.Asks.{Server}
 use Rattle.std.specs.Prelude.{IfSome, IsTrue, map}
 use Rattle.store_chain.specs.Chains.{Chained}
 
@@ -37,7 +31,6 @@ module _ {L D K : Type 0} (look : LookWords L) where
       found = subst (λ f. IfSome f (λ m. map (source_files look.files) x.stores ≡ map (location_files m) stores)) r.folders is.found;
       located = is.located;
       unused = is.unused;
-      kind = is.kind;
       given = chain_later c e s x is.given;
     }
 

@@ -1,7 +1,7 @@
 -- `cache -s STORE.. -c CACHE INDEX..`. A name is its bytes; files are a folder's, where they are told.
 use Rattle.std.specs.Prelude.{◌≡◌, ◌⊎◌, ℕ, ◌+◌, ◌<◌, ◌≤◌, List, [], ◌∷◌, length, map, max}
 use Rattle.std.specs.Prelude.{Option, Some, IfSome, IfErr, IsSomeAnd, IsTrue, true, is_some, Result, Ok, Err}
-use Rattle.std.specs.List.{All, AllZip, Any}
+use Rattle.std.specs.List.{AllZip, Any}
 use Rattle.std.specs.Option.{option_map}
 use Rattle.cache_store.specs.Giving.{GiveOneSize, SomeGives}
 use Rattle.caibx_codec.specs.Asks.{IsListedGet}
@@ -25,7 +25,7 @@ use Rattle.dsy_base.specs.Counts.{Quiet, Rose}
 use Rattle.dsy_base.specs.Disk.{Disk}
 use Rattle.dsy_base.specs.Links.{DialState}
 use Rattle.dsy_base.specs.Maps.{Map, at_name}
-use Rattle.image_store.specs.PutChunks.{HoldsAll, IsListedId as IsAmong}
+use Rattle.image_store.specs.PutChunks.{HoldsNamed, IsListedId as IsAmong}
 use Rattle.image_chop.specs.Chopping.{times_listed}
 use Rattle.store_chain.specs.Faults.{EachQuiet}
 use Rattle.store_chain.specs.Giving.{LacksAll}
@@ -215,8 +215,18 @@ CacheEnds stores cache most indexes = do
   _ ← OnDisk (CacheOpened stores (Some cache))
   OnStorage (IndexesFilled stores cache most indexes)
 
+-- the index lists the id, under which bytes of that name stand, by the index's kind of digest
+abbrev pub HoldsListed : Map (List ℕ) → List ℕ → Listing → Type 0
+HoldsListed m q l = IsAmong l (count_of l) q × HoldsNamed (kind_of l) q (m q)
+
+-- so it is with each id that these indexes list: by the first that lists it, or by a later one
+abbrev pub HoldsInOrder : List Listing → Map (List ℕ) → Type 0
+HoldsInOrder [] m = Unit {0}
+HoldsInOrder (l ∷ ls) m = ((i : ℕ) → i < count_of l → Any (HoldsListed m (id_of l i)) (l ∷ ls)) × HoldsInOrder ls m
+
 -- each INDEX is an index file, and the cache's folder, which was there, holds bytes with the name of each chunk that it
--- lists. No other folder has changed
+-- lists. Only a later INDEX that lists the id with the other kind of digest may have put others there, which have that
+-- name by its kind. No other folder has changed
 pub record IsCached (files : Map (List ℕ)) (folders folders_after : Map (Map (List ℕ))) (cache : List ℕ)
     (indexes : List (List ℕ)) : Type 0 where
   pub listings : List Listing
@@ -225,4 +235,4 @@ pub record IsCached (files : Map (List ℕ)) (folders folders_after : Map (Map (
   pub folder_was : folders cache ≡ Some held
   pub now : Map (List ℕ)
   pub folder_is : folders_after ≡ at_name folders cache (Some now)
-  pub holds : All (λ l. HoldsAll l (count_of l) (chunks now)) listings
+  pub holds : HoldsInOrder listings (chunks now)

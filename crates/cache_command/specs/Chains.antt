@@ -1,7 +1,6 @@
 -- Chains of the stores for further workers: how they are opened, and given back.
-use Rattle.std.specs.Prelude.{◌≡◌, ℕ, List, All, IfSome, map}
+use Rattle.std.specs.Prelude.{◌≡◌, List, All, IfSome, map}
 use Rattle.std.specs.List.{fold}
-use Rattle.chunk_store.specs.declared.id.DigestKind.TheVariants as kinds
 use Rattle.command_steps.specs.AnyStores.{IsKnown, IsUnused, location_in, source_files, with_those}
 use Rattle.command_steps.specs.Sources.{ConsultsStores, Storage, location_files}
 use Rattle.command_steps.specs.declared.any_store.AnyStore.{AnyStore}
@@ -27,7 +26,6 @@ module _ {L D K : Type 0} (look : LookWords L) where
       pub found : IfSome d.folders (λ m. map (source_files look.files) c.stores ≡ map (location_files m) stores)
       pub located : chain_stores c ≡ stores
       pub unused : All (IsUnused state) c.stores
-      pub kind : c.kind ≡ kinds.Sha512T256
       pub given : CanGiveChain e c
 
     -- it was given back

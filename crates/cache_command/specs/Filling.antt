@@ -4,7 +4,6 @@ use Rattle.std.specs.List.{All, AllZip}
 use Rattle.cache_command.specs.Caching.{IsGetAmong, listed_times}
 use Rattle.cache_store.specs.Shelves.{Shelf}
 use Rattle.caibx_codec.specs.Listing.{Listing}
-use Rattle.chunk_store.specs.declared.id.DigestKind.TheVariants as digests
 use Rattle.chunk_store.specs.declared.store.Store.{Ghosts as StoreWords}
 use Rattle.command_steps.specs.AnyStores.{IsUnused, source_faults, source_files}
 use Rattle.command_steps.specs.Cache.{with_cache}
@@ -17,10 +16,8 @@ use Rattle.dsy_base.specs.declared.look.Look.{Ghosts as LookWords}
 use Rattle.store_chain.specs.Chains.{Chained, KeepsStores}
 
 module _ {S : Type 0} (store : StoreWords S) where
-  -- the further workers' stores hold what the first worker's hold, and their chunks are named by one digest
+  -- the further workers' stores hold what the first worker's hold
   pub record HoldAlike (first : Chained S) (further : List (Chained S)) : Type 0 where
-    pub kind : first.kind ≡ digests.Sha512T256
-    pub kinds : All (λ c. c.kind ≡ digests.Sha512T256) further
     pub held : All (λ c. map store.holds c.stores ≡ map store.holds first.stores) further
 
   -- each store of a chain was asked for the chunk of an id at most once for each entry that lists it, and never whether

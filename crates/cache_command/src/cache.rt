@@ -16,6 +16,7 @@ ghost use Rattle.dsy_base.specs.Disk.{Disk, Output};
 
 use crate::chains::{close_chains, drop_chains, open_chains};
 use crate::filling::{Filling, fill_by, filling_of};
+use chunk_store::id::DigestKind;
 use chunk_store::store::Store;
 use command_outcome::outcome::Outcome;
 use command_steps::any_store::AnyStore;
@@ -38,37 +39,47 @@ fn fill_each<R: Threads + Sync, F: Files, D: Dial + Send>(
     alloc: Global,
     files: &mut F,
     indexes: &[Name],
-    filling: &mut Filling<F::Folder, AnyStore<F::Look, D>>,
-) -> Result<(), Outcome>
+    filling: Filling<F::Folder, AnyStore<F::Look, D>>,
+) -> (
+    Filling<F::Folder, AnyStore<F::Look, D>>,
+    Result<(), Outcome>,
+)
 where
     F::Look: Send,
     D::Link: Send,
-    requires alike { HoldAlike ⟦<AnyStore<F::Look, D> as Store>⟧ filling.old.cached.chain filling.old.further.items }
+    requires alike { HoldAlike ⟦<AnyStore<F::Look, D> as Store>⟧ filling.cached.chain filling.further.items }
     ensures filled { FillsEach (of_calls (source_files F.Look.files) (said_in F.Look.files D.state)
-        (source_faults F.Look.faults D.state) filling.old.cached.chain.stores filling.new.cached.chain.stores
-        (F.Folder.faults filling.old.cached.shelf.folder) (F.Folder.faults filling.new.cached.shelf.folder))
+        (source_faults F.Look.faults D.state) filling.cached.chain.stores result.0.cached.chain.stores
+        (F.Folder.faults filling.cached.shelf.folder) (F.Folder.faults result.0.cached.shelf.folder))
         (F.disk files.old) (F.disk files.new) indexes.now
-        (F.Folder.files filling.old.cached.shelf.folder) (F.Folder.files filling.new.cached.shelf.folder) result }
+        (F.Folder.files filling.cached.shelf.folder) (F.Folder.files result.0.cached.shelf.folder) result.1 }
     ensures kept { Reads (F.disk files.old) (F.disk files.new) }
     ensures asks { (ls : List Listing) × FrontListed (F.disk files.old) indexes.now ls
         × AllZip (AsksListings ⟦<AnyStore<F::Look, D> as Store>⟧ ls)
-        (filling.old.cached.chain ∷ filling.old.further.items) (filling.new.cached.chain ∷ filling.new.further.items) }
-    ensures place { F.Folder.place filling.new.cached.shelf.folder ≡ F.Folder.place filling.old.cached.shelf.folder }
-    ensures never_falls { F.Folder.faults filling.old.cached.shelf.folder
-        ≤ F.Folder.faults filling.new.cached.shelf.folder }
+        (filling.cached.chain ∷ filling.further.items) (result.0.cached.chain ∷ result.0.further.items) }
+    ensures place { F.Folder.place result.0.cached.shelf.folder ≡ F.Folder.place filling.cached.shelf.folder }
+    ensures never_falls { F.Folder.faults filling.cached.shelf.folder
+        ≤ F.Folder.faults result.0.cached.shelf.folder }
 {
     let Some((first, rest)) = indexes.split_first() else {
-        return Ok(());
+        return (filling, Ok(()));
     };
     let Ok(name) = Name::of(alloc, first.as_str()) else {
-        return Err(Outcome::Memory);
+        return (filling, Err(Outcome::Memory));
     };
-    let index = load_index(alloc, files, name)?;
-    fill_by(rt, alloc, &index, filling)?;
-    fill_each(rt, alloc, files, rest, filling)
+    let index = match load_index(alloc, files, name) {
+        Ok(index) => index,
+        Err(outcome) => return (filling, Err(outcome)),
+    };
+    let (filling, filled) = fill_by(rt, alloc, &index, filling);
+    match filled {
+        Ok(()) => fill_each(rt, alloc, files, rest, filling),
+        Err(outcome) => (filling, Err(outcome)),
+    }
 }
 
-// Opens the stores in their order, for the first worker and then for the others, and takes the folder of the cache.
+// Opens the stores in their order, for the first worker and then for the others, and takes the folder of the cache. No
+// index was read yet, so its kind isn't known: filling by an index makes cache and chains anew.
 fn reach<F: ImageFiles, D: Dial>(
     alloc: Global,
     files: &mut F,
@@ -95,7 +106,7 @@ fn reach<F: ImageFiles, D: Dial>(
         Err(outcome) => return Err(outcome),
     };
     let further = open_chains(alloc, files, dial, stores, workers as usize);
-    match take_shelf(alloc, files, cache) {
+    match take_shelf(alloc, files, DigestKind::Sha512T256, cache) {
         Ok(shelf) => Ok(filling_of(shelf, opened, further)),
         Err(outcome) => {
             drop_chains(files, further);
@@ -112,7 +123,7 @@ fn fill_between<R: Threads + Sync, F: Files, D: Dial + Send>(
     files: &mut F,
     dial: &mut D,
     cache: &str,
-    mut filling: Filling<F::Folder, AnyStore<F::Look, D>>,
+    filling: Filling<F::Folder, AnyStore<F::Look, D>>,
     indexes: &[Name],
 ) -> Result<(), Outcome>
 where
@@ -126,7 +137,7 @@ where
         (Some (shelf_of F.Folder.files F.Folder.place F.Folder.faults filling.cached.shelf)) (F.disk files.old))
         (D.state dial.old)) result (storage (F.disk files.new) (D.state dial.new)) }
 {
-    let filled = fill_each(rt, alloc, files, indexes, &mut filling);
+    let (filling, filled) = fill_each(rt, alloc, files, indexes, filling);
     let Filling { cached, further } = filling;
     let (shelf, chain) = cached.into_parts();
     give_shelf(files, cache, shelf);

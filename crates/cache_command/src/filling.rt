@@ -1,17 +1,17 @@
 //! A cache as it is filled, with the stores of all workers.
 
-ghost use Rattle.std.specs.Prelude.{◌≡◌, ◌≤◌, ◌∷◌, [], None, Result, length};
+ghost use Rattle.std.specs.Prelude.{◌≡◌, ◌≤◌, ◌∷◌, [], All, None, Result, length, map, vec_capacity};
 ghost use Rattle.std.specs.List.{AllZip};
 ghost use Rattle.cache_command.specs.Caching.{IndexFilled, answer_of_fill, of_calls};
 ghost use Rattle.cache_command.specs.Filling.{AsksListings, HoldAlike};
 ghost use Rattle.cache_fill.specs.declared.fill.FillFault.{FillFault};
-ghost use Rattle.chunk_store.specs.declared.id.DigestKind.TheVariants as kinds;
 ghost use Rattle.command_steps.specs.AnyStores.{said_in, source_faults, source_files};
 
 use cache_fill::fill::{FillFault, fill};
 use cache_store::cached::Cached;
 use cache_store::shelf::CacheShelf;
 use caibx_codec::index::Index;
+use chunk_store::id::DigestKind;
 use chunk_store::store::Store;
 use command_outcome::outcome::Outcome;
 use command_steps::any_store::AnyStore;
@@ -22,7 +22,8 @@ use std::alloc::Global;
 use std::thread::Threads;
 use store_chain::chain::Chain;
 
-/// A cache, which asks the stores of the first worker, and the chains of the further workers.
+/// A cache, which asks the stores of the first worker, and the chains of the further workers. Cache and chains are made
+/// anew for each index, of its kind.
 #[derive(Drop)]
 pub(crate) struct Filling<W: Folder, S: Store> {
     pub cached: Cached<W, S>,
@@ -36,14 +37,52 @@ pub(crate) fn filling_of<W: Folder, S: Store>(
     further: Vec<Chain<S>>,
 ) -> Filling<W, S>
     requires size { (1 ≤ length stores.items) × (length stores.items ≤ 16) }
-    requires kind { shelf.kind ≡ kinds.Sha512T256 }
     ensures stores { result.cached.chain.stores ≡ stores.items }
-    ensures kind { result.cached.chain.kind ≡ kinds.Sha512T256 }
     ensures shelf { result.cached.shelf ≡ shelf }
     ensures further { result.further ≡ further }
 {
+    let chain = Chain::with_kind(shelf.kind(), stores);
     Filling {
-        cached: Cached::new(shelf, Chain::new(stores)),
+        cached: Cached::new(shelf, chain),
+        further,
+    }
+}
+
+// Makes each chain anew, of the same stores. Chunks are named by this digest.
+fn remake_chains<S: Store>(kind: DigestKind, chains: &mut Vec<Chain<S>>)
+    ensures kinds { All (λ c. c.kind ≡ kind) chains.new.items }
+    ensures stores { map (λ c. c.stores) chains.new.items ≡ map (λ c. c.stores) chains.old.items }
+    ensures capacity { vec_capacity chains.old ≤ vec_capacity chains.new }
+{
+    match chains.pop() {
+        Some(chain) => {
+            remake_chains(kind, chains);
+            chains
+                .push(Chain::with_kind(kind, chain.into_stores()))
+                .unwrap()
+        }
+        None => (),
+    }
+}
+
+// Makes the cache and the chains anew, of the same folder and stores. Chunks are named by this digest.
+fn remake<W: Folder, S: Store>(kind: DigestKind, filling: Filling<W, S>) -> Filling<W, S>
+    ensures kind { result.cached.chain.kind ≡ kind }
+    ensures kinds { All (λ c. c.kind ≡ kind) result.further.items }
+    ensures folder { result.cached.shelf.folder ≡ filling.cached.shelf.folder }
+    ensures stores { result.cached.chain.stores ≡ filling.cached.chain.stores }
+    ensures further { map (λ c. c.stores) result.further.items ≡ map (λ c. c.stores) filling.further.items }
+{
+    let Filling {
+        cached,
+        mut further,
+    } = filling;
+    let (shelf, chain) = cached.into_parts();
+    remake_chains(kind, &mut further);
+    let shelf = CacheShelf::with_kind(kind, shelf.into_inner());
+    let chain = Chain::with_kind(kind, chain.into_stores());
+    Filling {
+        cached: Cached::new(shelf, chain),
         further,
     }
 }
@@ -74,28 +113,29 @@ fn answer_of(filled: Result<(), FillFault>) -> Result<(), Outcome>
     }
 }
 
-/// Fills the cache by one index.
+/// Fills the cache by one index. Cache and chains are made anew, of its kind.
 pub(crate) fn fill_by<R: Threads + Sync, W: Folder, L: Look + Send, D: Dial + Send>(
     rt: &R,
     alloc: Global,
     index: &Index,
-    filling: &mut Filling<W, AnyStore<L, D>>,
-) -> Result<(), Outcome>
+    filling: Filling<W, AnyStore<L, D>>,
+) -> (Filling<W, AnyStore<L, D>>, Result<(), Outcome>)
 where
     D::Link: Send,
     requires unnamed { (W.pairs ≡ None) × (W.stores ≡ None) }
-    requires alike { HoldAlike ⟦<AnyStore<L, D> as Store>⟧ filling.old.cached.chain filling.old.further.items }
-    ensures filled { (r : Result Unit FillFault) × (result ≡ answer_of_fill r)
+    requires alike { HoldAlike ⟦<AnyStore<L, D> as Store>⟧ filling.cached.chain filling.further.items }
+    ensures filled { (r : Result Unit FillFault) × (result.1 ≡ answer_of_fill r)
         × IndexFilled (of_calls (source_files L.files) (said_in L.files D.state) (source_faults L.faults D.state)
-        filling.old.cached.chain.stores filling.new.cached.chain.stores
-        (W.faults filling.old.cached.shelf.folder) (W.faults filling.new.cached.shelf.folder)) index.now
-        (W.files filling.old.cached.shelf.folder) (W.files filling.new.cached.shelf.folder) r }
+        filling.cached.chain.stores result.0.cached.chain.stores
+        (W.faults filling.cached.shelf.folder) (W.faults result.0.cached.shelf.folder)) index.now
+        (W.files filling.cached.shelf.folder) (W.files result.0.cached.shelf.folder) r }
     ensures asks { AllZip (AsksListings ⟦<AnyStore<L, D> as Store>⟧ (index.now ∷ []))
-        (filling.old.cached.chain ∷ filling.old.further.items) (filling.new.cached.chain ∷ filling.new.further.items) }
-    ensures alike { HoldAlike ⟦<AnyStore<L, D> as Store>⟧ filling.new.cached.chain filling.new.further.items }
-    ensures place { W.place filling.new.cached.shelf.folder ≡ W.place filling.old.cached.shelf.folder }
-    ensures never_falls { W.faults filling.old.cached.shelf.folder ≤ W.faults filling.new.cached.shelf.folder }
+        (filling.cached.chain ∷ filling.further.items) (result.0.cached.chain ∷ result.0.further.items) }
+    ensures alike { HoldAlike ⟦<AnyStore<L, D> as Store>⟧ result.0.cached.chain result.0.further.items }
+    ensures place { W.place result.0.cached.shelf.folder ≡ W.place filling.cached.shelf.folder }
+    ensures never_falls { W.faults filling.cached.shelf.folder ≤ W.faults result.0.cached.shelf.folder }
 {
+    let mut filling = remake(index.kind(), filling);
     let filled = fill(rt, alloc, index, &mut filling.cached, &mut filling.further);
-    answer_of(filled)
+    (filling, answer_of(filled))
 }

@@ -13,13 +13,26 @@ fn add_words(bytes: &mut Vec<u8>, words: &[u64]) -> Result<(), AllocError> {
     Ok(())
 }
 
-/// An index file that lists the pieces, with casync's default sizes.
-pub fn index_of(alloc: Global, pieces: &str) -> Result<Vec<u8>, Fail> {
+// The flags of an index by this digest, as casync writes them.
+fn flags_of(kind: DigestKind) -> u64 {
+    match kind {
+        DigestKind::Sha512T256 => 0xa000_0000_0000_0000,
+        DigestKind::Sha256 => 0x8000_0000_0000_0000,
+    }
+}
+
+/// An index file that lists the pieces by this digest, whose flags say that one, with casync's default sizes.
+pub fn index_of(
+    alloc: Global,
+    kind: DigestKind,
+    flags: DigestKind,
+    pieces: &str,
+) -> Result<Vec<u8>, Fail> {
     let mut bytes = Vec::new(alloc);
     let head = [
         48,
         0x9682_4d9c_7b12_9ff9,
-        0xa000_0000_0000_0000,
+        flags_of(flags),
         16384,
         65536,
         262_144,
@@ -32,7 +45,7 @@ pub fn index_of(alloc: Global, pieces: &str) -> Result<Vec<u8>, Fail> {
         end = end.saturating_add(piece.len() as u64);
         size = size.saturating_add(40);
         add_words(&mut bytes, &[end])?;
-        bytes.extend_from_slice(&ChunkId::of(DigestKind::Sha512T256, &piece).0)?;
+        bytes.extend_from_slice(&ChunkId::of(kind, &piece).0)?;
     }
     add_words(&mut bytes, &[0, 0, 48, size, 0x4b4f_050e_5549_ecd1])?;
     Ok(bytes)

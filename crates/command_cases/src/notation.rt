@@ -77,8 +77,17 @@ pub fn bytes_of(alloc: Global, text: &str) -> Result<Vec<u8>, Fail> {
     Ok(bytes)
 }
 
+/// The digest that a text names.
+pub fn kind_of(text: &str) -> Result<DigestKind, Fail> {
+    match text {
+        "sha512-256" => Ok(DigestKind::Sha512T256),
+        "sha256" => Ok(DigestKind::Sha256),
+        _ => Err(Fail::new("no digest")),
+    }
+}
+
 /// Where the chunk of these bytes lies in a store.
-pub fn path_of(alloc: Global, text: &str) -> Result<ChunkPath, Fail> {
+pub fn path_of(alloc: Global, kind: DigestKind, text: &str) -> Result<ChunkPath, Fail> {
     let bytes = bytes_of(alloc, text)?;
-    Ok(ChunkId::of(DigestKind::Sha512T256, &bytes).path())
+    Ok(ChunkId::of(kind, &bytes).path())
 }

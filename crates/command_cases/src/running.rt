@@ -4,6 +4,7 @@ use crate::index_files::index_of;
 use crate::notation::{bytes_of, parted, path_of, words_of};
 use crate::showing::{copied, print_bytes, print_found};
 use crate::world::World;
+use chunk_store::id::DigestKind;
 use desync_cli::in_memory::{MemWorld, desync_in_memory, make_then_extract};
 use desync_cli::run::desync;
 use dsy_base::folder::Folder;
@@ -67,13 +68,13 @@ pub fn both<R: Print + Threads + Wait + Sync>(
 }
 
 // Files that never fail: a store `st` of one chunk, and its index `i`.
-fn sure_files_of(alloc: Global, piece: &str) -> Result<SureFiles, Fail> {
+fn sure_files_of(alloc: Global, kind: DigestKind, piece: &str) -> Result<SureFiles, Fail> {
     let mut files = SureFiles::new(alloc);
     let mut folder = SureFolder::new(alloc);
-    let path = path_of(alloc, piece)?;
+    let path = path_of(alloc, kind, piece)?;
     folder.put(path.as_str(), &bytes_of(alloc, piece)?)?;
     files.set_folder("st", folder)?;
-    files.set_file("i", index_of(alloc, piece)?)?;
+    files.set_file("i", index_of(alloc, kind, kind, piece)?)?;
     Ok(files)
 }
 
@@ -87,7 +88,7 @@ pub fn surely<R: Print + Threads + Wait + Sync>(
     let alloc = world.alloc;
     let (piece, words) = parted(rest);
     let words = words_of(alloc, words)?;
-    let mut files = sure_files_of(alloc, piece)?;
+    let mut files = sure_files_of(alloc, world.kind, piece)?;
     let mut out = SureSink::new(alloc);
     let mut err = SureSink::new(alloc);
     world.connect()?;

@@ -3,8 +3,8 @@
 use crate::notation::parted;
 use crate::running::{both, run, surely};
 use crate::setting::{
-    client, failing_files, failing_listener, failing_reads, failing_store, failing_writes, file,
-    index, server, store,
+    client, digest, failing_files, failing_listener, failing_reads, failing_store, failing_writes,
+    file, index, server, store,
 };
 use crate::showing::{
     chunk_shown, digits_shown, file_shown, names_shown, print_found, replies_shown, sameness_shown,
@@ -29,6 +29,7 @@ fn set_up_or_show(rt: &impl Print, world: &mut World, line: &str) -> Result<(), 
         "server" => server(world, rest),
         "client" => client(world, rest),
         "failing-listener" => failing_listener(world, rest),
+        "digest" => digest(world, rest),
         _ => print_found(rt, line, shown(world, word, rest)?),
     }
 }

@@ -1,9 +1,10 @@
 //! Lines that say what is there.
 
 use crate::index_files::index_of;
-use crate::notation::{bytes_of, calls_of, number_of, parted, path_of, words_of};
+use crate::notation::{bytes_of, calls_of, kind_of, number_of, parted, path_of, words_of};
 use crate::world::World;
 use byte_forms::ranges::RangeFails;
+use chunk_store::id::DigestKind;
 use dsy_base::folder::Folder;
 use dsy_forms::mem_files::MemFiles;
 use dsy_forms::mem_folder::MemFolder;
@@ -25,7 +26,7 @@ pub fn file(world: &mut World, rest: &str) -> Result<(), Fail> {
 /// `index NAME PIECE..`
 pub fn index(world: &mut World, rest: &str) -> Result<(), Fail> {
     let (name, pieces) = parted(rest);
-    let bytes = index_of(world.alloc, pieces)?;
+    let bytes = index_of(world.alloc, world.kind, world.flags, pieces)?;
     world
         .memory
         .files
@@ -77,12 +78,17 @@ fn put(alloc: Global, folder: &mut MemFolder, name: &str, text: &str) -> Result<
 }
 
 // Puts a chunk, `PIECE` or `PIECE=BYTES`, or any file, `NAME:BYTES`.
-fn put_chunk(alloc: Global, folder: &mut MemFolder, word: &str) -> Result<(), Fail> {
+fn put_chunk(
+    alloc: Global,
+    kind: DigestKind,
+    folder: &mut MemFolder,
+    word: &str,
+) -> Result<(), Fail> {
     if let Some((name, text)) = word.split_once(':') {
         return put(alloc, folder, name, text);
     }
     let (piece, text) = word.split_once('=').unwrap_or((word, word));
-    put(alloc, folder, path_of(alloc, piece)?.as_str(), text)
+    put(alloc, folder, path_of(alloc, kind, piece)?.as_str(), text)
 }
 
 /// `store NAME CHUNK..`
@@ -90,7 +96,7 @@ pub fn store(world: &mut World, rest: &str) -> Result<(), Fail> {
     let (name, chunks) = parted(rest);
     let mut folder = MemFolder::new(world.alloc, Vec::new(world.alloc));
     for chunk in words_of(world.alloc, chunks)?.iter() {
-        put_chunk(world.alloc, &mut folder, chunk.as_str())?;
+        put_chunk(world.alloc, world.kind, &mut folder, chunk.as_str())?;
     }
     world.memory.files.set_folder(name, folder)?;
     Ok(())
@@ -119,5 +125,17 @@ pub fn client(world: &mut World, text: &str) -> Result<(), Fail> {
 /// `failing-listener CALL..`
 pub fn failing_listener(world: &mut World, calls: &str) -> Result<(), Fail> {
     world.listener_fails = calls_of(world.alloc, calls)?;
+    Ok(())
+}
+
+/// `digest KIND`, `digest KIND FLAGS`
+pub fn digest(world: &mut World, rest: &str) -> Result<(), Fail> {
+    let (kind, flags) = parted(rest);
+    world.kind = kind_of(kind)?;
+    world.flags = if flags.is_empty() {
+        world.kind
+    } else {
+        kind_of(flags)?
+    };
     Ok(())
 }

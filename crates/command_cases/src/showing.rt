@@ -71,7 +71,7 @@ pub fn sameness_shown(world: &World, names: &str) -> Result<Option<Vec<u8>>, Fai
 /// `chunk FOLDER PIECE`: what a folder holds under the id of a piece.
 pub fn chunk_shown(world: &mut World, rest: &str) -> Result<Option<Vec<u8>>, Fail> {
     let (folder, piece) = parted(rest);
-    let path = path_of(world.alloc, piece)?;
+    let path = path_of(world.alloc, world.kind, piece)?;
     let mut room = [0; 16];
     match world
         .memory

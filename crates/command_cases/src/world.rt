@@ -5,6 +5,7 @@ ghost use Rattle.dsy_base.specs.Links.{IsFreshLink};
 ghost use Rattle.link_forms.specs.MemLinks.{link_of};
 
 use crate::listening::Noting;
+use chunk_store::id::DigestKind;
 use desync_cli::in_memory::MemWorld;
 use dsy_forms::mem_files::MemFiles;
 use dsy_forms::mem_sink::MemSink;
@@ -19,6 +20,9 @@ pub struct World {
     pub alloc: Global,
     /// The files, and the dialer, the listener and the sinks of the last run.
     pub memory: MemWorld<MemDial, Noting>,
+    /// By which digest chunks are named, and which one an index says.
+    pub kind: DigestKind,
+    pub flags: DigestKind,
     /// What comes on each connection to a server.
     pub servers: Vec<Vec<u8>>,
     /// What each client sends.
@@ -43,6 +47,8 @@ impl World {
                 out: MemSink::new(alloc, Vec::new(alloc)),
                 err: MemSink::new(alloc, Vec::new(alloc)),
             },
+            kind: DigestKind::Sha512T256,
+            flags: DigestKind::Sha512T256,
             servers: Vec::new(alloc),
             clients: Vec::new(alloc),
             listener_fails: Vec::new(alloc),

@@ -1,64 +1,65 @@
 -- What `cache` has achieved where it is done.
-use Rattle.std.proofs.Common.{◌≡◌, ◌⊎◌, ℕ, ◌<◌, List, [], ◌∷◌, true, false, Option, Some, None, IfSome, IsSome, is_some, Ok, refl, sym, subst, ap, ◌∙◌, inl, inr, unwrap_or}
-use Rattle.std.proofs.lemmas.List.Elements.{All-cons, All-nil}
-use Rattle.std.specs.List.{All, AllZip}
+use Rattle.std.proofs.Common.{◌≡◌, ◌⊎◌, ℕ, arith, suc, ◌<◌, List, [], ◌∷◌, true, false, Option, Some, None, IfSome, IsSome, is_some, Ok, refl, sym, subst, ap, ◌∙◌, inl, inr, unwrap_or}
+use Rattle.std.proofs.lemmas.Option.{same_Some}
+use Rattle.std.specs.List.{AllZip, Any}
 use Rattle.std.specs.Option.{option_map}
-use Rattle.caibx_codec.specs.Listing.{Listing, count_of, id_of, kind_of}
+use Rattle.caibx_codec.specs.Listing.{Listing, count_of, id_of}
 use Rattle.chunk_store.specs.Folders.{chunks}
 use Rattle.command_steps.specs.InputFiles.{IsListed}
 use Rattle.command_steps.specs.Sources.{storage, storage_of}
 use Rattle.command_worlds.specs.Worlds.{World}
 use Rattle.command_words.specs.declared.command.Location.{Location}
-use Rattle.cache_command.specs.Caching.{AddsListed, AllFilled, CacheEnds, Evidence, IsCached, IsHeldListed, of_command}
+use Rattle.cache_command.specs.Caching.{AllFilled, CacheEnds, Evidence, HoldsInOrder, HoldsListed, IndexFilled, IsCached, of_command}
 use Rattle.dsy_base.specs.Disk.{Disk}
 use Rattle.dsy_base.specs.Maps.{Map, at_name}
-use Rattle.image_store.specs.PutChunks.{HoldsAll, HoldsNamed}
-use Rattle.cache_fill.specs.Filling.{HoldsEntry}
 
 true_false : true ≡ false → ⊥
 true_false e = cc
 
--- the files hold bytes with the name of each listed chunk
-abbrev NamesAll : Listing → Option (Map (List ℕ)) → Type 0
-NamesAll l y = IfSome (option_map chunks y) (λ m. HoldsAll l (count_of l) m)
+pub any_first : {X : Type 0} (P : X → Type 0) (x : X) (xs : List X) → P x → Any P (x ∷ xs)
+any_first P x xs p = (0, x, omega arith, refl, p)
+
+pub any_later : {X : Type 0} (P : X → Type 0) (x : X) (xs : List X) → Any P xs → Any P (x ∷ xs)
+any_later P x xs (k, y, lt, is, p) = (suc k, y, omega (arith, lt), is, p)
+
+told_of : (x y : Option (Map (List ℕ))) (f : Map (List ℕ)) → x ≡ Some f → is_some y ≡ is_some x → (g : Map (List ℕ)) × (y ≡ Some g)
+told_of x None f is same = absurd (true_false (sym (same ∙ ap is_some is)))
+told_of x (Some g) f is same = (g, refl)
 
 module _ (over : Evidence) where
-  named_one : (l : Listing) (q : List ℕ) (a b : Option (List ℕ)) → (b ≡ a) ⊎ ((t : List ℕ) × (b ≡ Some t) × IsHeldListed over l q t) → HoldsNamed (kind_of l) q a → HoldsNamed (kind_of l) q b
-  named_one l q a b (inl same) (t, held, named) = (t, same ∙ held, named)
-  named_one l q a b (inr (t, held, ((n, listed, is), some))) before = (t, held, is.named)
-
-  named_on : (k l : Listing) (x y : Option (Map (List ℕ))) → AddsListed over k x y → NamesAll l x → NamesAll l y
-  named_on k l x y h = go x y h.tells h.chunks_are where
-    go : (x y : Option (Map (List ℕ))) → is_some y ≡ is_some x → IfSome x (λ f. IfSome y (λ g. (q : List ℕ) → (chunks g q ≡ chunks f q) ⊎ ((b : List ℕ) × (chunks g q ≡ Some b) × IsHeldListed over k q b))) → NamesAll l x → NamesAll l y
-    go None None same h before = tt
-    go None (Some g) same h before = absurd (true_false same)
-    go (Some f) None same h before = tt
-    go (Some f) (Some g) same h before = λ i less. named_one k (id_of l i) (chunks f (id_of l i)) (chunks g (id_of l i)) (h (id_of l i)) (before i less)
-
   module _ (d e : Disk) where
-    all_named : (l : Listing) (indexes : List (List ℕ)) (x y : Option (Map (List ℕ))) → AllFilled over d e indexes x y → NamesAll l x → NamesAll l y
-    all_named l [] x y h before = subst (NamesAll l) (sym h) before
-    all_named l (q ∷ indexes) x y (k, listed, z, filled, rest) before = all_named l indexes z y rest (named_on k l x z filled.added before)
-
     all_tell : (indexes : List (List ℕ)) (x y : Option (Map (List ℕ))) → AllFilled over d e indexes x y → is_some y ≡ is_some x
     all_tell [] x y h = ap is_some h
     all_tell (q ∷ indexes) x y (k, listed, z, filled, rest) = all_tell indexes z y rest ∙ filled.added.tells
 
-    named_of : (l : Listing) (z : Option (Map (List ℕ))) → IfSome (option_map chunks z) (λ m. (i : ℕ) → i < count_of l → HoldsEntry l i (m (id_of l i))) → NamesAll l z
-    named_of l None h = tt
-    named_of l (Some f) h = λ i less. let entry = h i less in (entry.0, entry.1, entry.2)
-
-    listings : (b g : Map (List ℕ)) → d.files ≡ Some b → (indexes : List (List ℕ)) (x : Option (Map (List ℕ))) → AllFilled over d e indexes x (Some g)
-        → (ls : List Listing) × AllZip (IsListed b) indexes ls × All (λ l. HoldsAll l (count_of l) (chunks g)) ls
-    listings b g is [] x h = ([], tt, All-nil (λ l. HoldsAll l (count_of l) (chunks g)))
-    listings b g is (q ∷ indexes) x (l, listed, z, filled, rest) =
-        let later = listings b g is indexes z rest in
-        let here : HoldsAll l (count_of l) (chunks g) = all_named l indexes z (Some g) rest (named_of l z filled.holds) in
-        (l ∷ later.0, (subst (λ (o : Option (Map (List ℕ))). IfSome o (λ m. IsListed m q l)) is listed, later.1), All-cons (λ l. HoldsAll l (count_of l) (chunks g)) l later.0 here later.2)
-
-    told_of : (x y : Option (Map (List ℕ))) (f : Map (List ℕ)) → x ≡ Some f → is_some y ≡ is_some x → (g : Map (List ℕ)) × (y ≡ Some g)
-    told_of x None f is same = absurd (true_false (sym (same ∙ ap is_some is)))
-    told_of x (Some g) f is same = (g, refl)
+    module _ (b g : Map (List ℕ)) (is : d.files ≡ Some b) where
+      -- under each id of these indexes stand bytes of that name, by one of them; and under all others what stood there
+      listings : (indexes : List (List ℕ)) (f : Map (List ℕ)) → AllFilled over d e indexes (Some f) (Some g)
+          → (ls : List Listing) × AllZip (IsListed b) indexes ls × HoldsInOrder ls (chunks g) × ((q : List ℕ) → (chunks g q ≡ chunks f q) ⊎ Any (HoldsListed (chunks g) q) ls)
+      listings [] f h = ([], tt, tt, λ q. inl (ap (λ (m : Map (List ℕ)). chunks m q) (same_Some _ _ h)))
+      listings (p ∷ indexes) f (l, listed, z, filled, rest) =
+          let there = told_of (Some f) z f refl filled.added.tells in
+          let later = listings indexes there.0 (subst (λ o. AllFilled over d e indexes o (Some g)) there.1 rest) in
+          let fill = subst (λ o. IndexFilled over l (Some f) o (Ok tt)) there.1 filled in (
+            l ∷ later.0,
+            (subst (λ (o : Option (Map (List ℕ))). IfSome o (λ m. IsListed m p l)) is listed, later.1),
+            (
+              λ i less.
+                  let entry = fill.holds i less in
+                  elim (later.3 (id_of l i)) [
+                    | inl same ↦ any_first (HoldsListed (chunks g) (id_of l i)) l later.0 (record { entry = i; below = less; id = refl }, (entry.0, same ∙ entry.1, entry.2))
+                    | inr some ↦ any_later (HoldsListed (chunks g) (id_of l i)) l later.0 some
+                  ],
+              later.2,
+            ),
+            λ q. elim (later.3 q) [
+              | inl same ↦ elim (fill.added.chunks_are q) [
+                | inl was ↦ inl (same ∙ was)
+                | inr (t, new, ((n, lists, named), some)) ↦ inr (any_first (HoldsListed (chunks g) q) l later.0 (record { entry = lists.0; below = lists.1; id = sym lists.2 }, (t, same ∙ new, named.named)))
+              ]
+              | inr some ↦ inr (any_later (HoldsListed (chunks g) q) l later.0 some)
+            ],
+          )
 
     pub over_all : (cache : List ℕ) (indexes : List (List ℕ)) (x : Option (Map (List ℕ))) (y z : Option (Map (Map (List ℕ)))) (held files : Option (Map (List ℕ))) → d.files ≡ x
         → IfSome y (λ m. (f : Map (List ℕ)) × (m cache ≡ Some f) × (held ≡ Some f)) → z ≡ option_map (λ m. at_name m cache files) y → AllFilled over d e indexes held files
@@ -68,7 +69,8 @@ module _ (over : Evidence) where
     over_all cache indexes (Some b) (Some n) None held files is taken back h = tt
     over_all cache indexes (Some b) (Some n) (Some m) held files is taken back h =
         let now = told_of held files taken.0 taken.2 (all_tell indexes held files h) in
-        let all = listings b now.0 is indexes held (subst (λ o. AllFilled over d e indexes held o) now.1 h) in
+        let from = subst (λ o. AllFilled over d e indexes o (Some now.0)) taken.2 (subst (λ o. AllFilled over d e indexes held o) now.1 h) in
+        let all = listings b now.0 is indexes taken.0 from in
         record {
           listings = all.0;
           listed = all.1;

@@ -31,20 +31,20 @@ quiet f = record { disk = f.disk; out = f.out }
 
 module _ (sure : Bool) (k : Heard) (x : Contents) (w v : World) where
   command_exact : (c : Command) → IsFaultless (parts k c) w v x → (r : Result Unit Outcome) → CommandEnds sure k c w r v → EndsSo x v (EndingOf k c) (outcome_of r)
-  command_exact (commands.Make store sizes workers index image) f = makes_so x w v (quiet f) store sizes index image f.folders f.tells
+  command_exact (commands.Make store sizes workers digest index image) f = makes_so x w v (quiet f) store digest sizes index image f.folders f.tells
   command_exact (commands.VerifyIndex workers index image) f = verifies_index_so x w v (quiet f) index image f.tells
   command_exact (commands.Chop store workers index image) f = chops_so x w v (quiet f) store index image f.folders f.tells
   command_exact (commands.Cache stores cache workers indexes) f = caches_so x w v (quiet f) stores cache workers indexes f.folders f.tells
   command_exact (commands.ListChunks index) f = lists_so x w v (quiet f) index f.tells
   command_exact (commands.Extract stores seeds cache in_place workers index target) f = extracts_so x w v (quiet f) (never_fail sure k.never_fails) stores f.folders cache seeds in_place index target f.tells
   command_exact (commands.Info stores index) f = tells_so x w v (quiet f) stores index f.folders f.tells
-  command_exact (commands.Verify store repair workers) f = verifies_so x w v (quiet f) store repair f.tells
+  command_exact (commands.Verify store repair workers digest) f = verifies_so x w v (quiet f) digest store repair f.tells
   command_exact (commands.Prune store indexes) f = prunes_so x w v (quiet f) store indexes f.tells
-  command_exact (commands.Demo number size workers) f = demonstrates_so x w v (quiet f) number size f.tells
+  command_exact (commands.Demo number size workers digest) f = demonstrates_so x w v (quiet f) digest number size f.tells
   command_exact commands.Help f = prints_so x w v (quiet f) (help_text topics.All) w (at_first x w f.tells)
   command_exact commands.Version f = prints_so x w v (quiet f) (help_text topics.Version) w (at_first x w f.tells)
   command_exact (commands.HelpOn kind) f = prints_so x w v (quiet f) (help_text (topics.Command kind)) w (at_first x w f.tells)
-  command_exact (commands.ChunkServer store host port writable workers) f = serves_so x w v (quiet f) k f.listener store writable workers f.tells
+  command_exact (commands.ChunkServer store host port writable workers digest) f = serves_so x w v (quiet f) k f.listener digest store writable workers f.tells
 
 -- words that are no command, or for which there was no memory
 words_exact : (words : List (List ℕ)) (k : Heard) (w v : World) (o : Outcome) → NoCommand words o → IfSome (command_of words) (λ c. (x : Contents) → IsFaultless (parts k c) w v x → IsExact k c x o v)

@@ -4,12 +4,12 @@ use Rattle.std.proofs.lemmas.Option.{same_Some}
 use Rattle.std.specs.List.{Any, Contains}
 use Rattle.std.specs.Option.{option_map}
 use Rattle.cache_store.specs.Giving.{GiveOneSize, SomeGives}
-use Rattle.caibx_codec.specs.Listing.{Listing, count_of, id_of, size_of}
+use Rattle.caibx_codec.specs.Listing.{Listing, count_of, id_of, kind_of, size_of}
 use Rattle.chunk_sources.proofs.Lacking.{any_cons}
 use Rattle.chunk_store.specs.Folders.{chunks}
 use Rattle.chunk_store.specs.Giving.{GivesChunk, IsChunk}
 use Rattle.chunk_store.specs.declared.id.ChunkId.{ChunkId}
-use Rattle.chunk_store.specs.declared.id.DigestKind.TheVariants as kinds
+use Rattle.chunk_store.specs.declared.id.DigestKind.{DigestKind}
 use Rattle.command_outcome.specs.declared.outcome.Outcome.{Outcome}
 use Rattle.command_outcome.specs.declared.outcome.Outcome.TheVariants as ends
 use Rattle.command_steps.specs.Cache.{CacheOpened}
@@ -19,10 +19,10 @@ use Rattle.command_steps.specs.Stores.{are_folders}
 use Rattle.command_words.specs.declared.command.Location.{Location}
 use Rattle.command_worlds.specs.Steps.{◌>>=◌, outcome_of}
 use Rattle.command_worlds.specs.Worlds.{DiskQuiet, OnDisk, World}
-use Rattle.desync_cli.proofs.Cached.{over_all}
+use Rattle.desync_cli.proofs.Cached.{any_first, any_later, over_all}
 use Rattle.desync_cli.proofs.Readings.{EndsSo, IsAt, IsQuiet, at_first, cache_so, file_unrisen, index_there, index_unread, some_not, stores_so}
 use Rattle.desync_cli.specs.Contents.{Contents, Ending, HasContents, folder_at, folders_at, with_folder}
-use Rattle.desync_cli.specs.Exact.{Caches, FillsInOrder, GainsListed, IsFirstLacking, IsListedAmong, NamesLacking}
+use Rattle.desync_cli.specs.Exact.{Caches, FillsInOrder, GainsListed, GiveOneKind, IsFirstLacking, IsListedAmong, NamesLacking}
 use Rattle.dsy_base.specs.Maps.{Map, at_name}
 use Rattle.store_chain.specs.declared.refused.Refused.{Refused}
 use Rattle.store_chain.specs.declared.refused.Refused.TheVariants as refused
@@ -41,12 +41,6 @@ still_quiet x w u v at quiet = record {
 any_weaker : {X : Type 0} (P Q : X → Type 0) → ((x : X) → P x → Q x) → (xs : List X) → Any P xs → Any Q xs
 any_weaker P Q on xs (k, x, lt, is, p) = (k, x, lt, is, on x p)
 
-any_first : {X : Type 0} (P : X → Type 0) (x : X) (xs : List X) → P x → Any P (x ∷ xs)
-any_first P x xs p = (0, x, omega arith, refl, p)
-
-any_later : {X : Type 0} (P : X → Type 0) (x : X) (xs : List X) → Any P xs → Any P (x ∷ xs)
-any_later P x xs (k, y, lt, is, p) = (suc k, y, omega (arith, lt), is, p)
-
 among_first : (q : List ℕ) (indexes : List (List ℕ)) → Contains (q ∷ indexes) q
 among_first q indexes = (0, omega arith, refl)
 
@@ -55,45 +49,46 @@ among_later q p indexes (k, lt, is) = (suc k, omega (arith, lt), is)
 
 -- ---- what a cache gives that has gained chunks
 
-module _ (Listed : List ℕ → ℕ → Type 0) (stores : List (Map (List ℕ))) (f g : Map (List ℕ)) (gains : GainsListed Listed stores f g) where
+module _ (Listed : DigestKind → List ℕ → ℕ → Type 0) (stores : List (Map (List ℕ))) (f g : Map (List ℕ)) (gains : GainsListed Listed stores f g) where
   -- it gave before, or a store gives
-  gave : (id : List ℕ) (n : ℕ) → GivesChunk kinds.Sha512T256 id n (chunks g id) → GivesChunk kinds.Sha512T256 id n (chunks f id) ⊎ SomeGives kinds.Sha512T256 id n stores
-  gave id n (b, held, is) = elim (gains.held id) [
+  gave : (kind : DigestKind) (id : List ℕ) (n : ℕ) → GivesChunk kind id n (chunks g id) → GivesChunk kind id n (chunks f id) ⊎ SomeGives kind id n stores
+  gave kind id n (b, held, is) = elim (gains.held id) [
     | inl same ↦ inl (b, sym same ∙ held, is)
     | inr (c, new, listed, some) ↦
         let same : c ≡ b = same_Some _ _ (sym new ∙ held) in
-        inr (any_weaker (λ m. m id ≡ Some c) (λ m. GivesChunk kinds.Sha512T256 id n (m id)) (λ m there. (c, there, subst (IsChunk kinds.Sha512T256 id n) (sym same) is)) stores some)
+        inr (any_weaker (λ m. m id ≡ Some c) (λ m. GivesChunk kind id n (m id)) (λ m there. (c, there, subst (IsChunk kind id n) (sym same) is)) stores some)
   ]
 
-  all_gave : (id : List ℕ) (n : ℕ) → SomeGives kinds.Sha512T256 id n (chunks g ∷ stores) → SomeGives kinds.Sha512T256 id n (chunks f ∷ stores)
-  all_gave id n some = elim (any_cons (λ m. GivesChunk kinds.Sha512T256 id n (m id)) (chunks g) stores some) [
-    | inl here ↦ elim (gave id n here) [ inl before ↦ any_first (λ m. GivesChunk kinds.Sha512T256 id n (m id)) (chunks f) stores before | inr store ↦ any_later (λ m. GivesChunk kinds.Sha512T256 id n (m id)) (chunks f) stores store ]
-    | inr later ↦ any_later (λ m. GivesChunk kinds.Sha512T256 id n (m id)) (chunks f) stores later
+  all_gave : (kind : DigestKind) (id : List ℕ) (n : ℕ) → SomeGives kind id n (chunks g ∷ stores) → SomeGives kind id n (chunks f ∷ stores)
+  all_gave kind id n some = elim (any_cons (λ m. GivesChunk kind id n (m id)) (chunks g) stores some) [
+    | inl here ↦ elim (gave kind id n here) [ inl before ↦ any_first (λ m. GivesChunk kind id n (m id)) (chunks f) stores before | inr store ↦ any_later (λ m. GivesChunk kind id n (m id)) (chunks f) stores store ]
+    | inr later ↦ any_later (λ m. GivesChunk kind id n (m id)) (chunks f) stores later
   ]
 
-  module _ (one : GiveOneSize Listed kinds.Sha512T256 (chunks f ∷ stores)) where
+  module _ (sizes : (kind : DigestKind) → GiveOneSize (Listed kind) kind (chunks f ∷ stores)) (kinds : GiveOneKind Listed (chunks f ∷ stores)) where
     -- it gives still
-    gives : (id : List ℕ) (n : ℕ) → Listed id n → GivesChunk kinds.Sha512T256 id n (chunks f id) → GivesChunk kinds.Sha512T256 id n (chunks g id)
-    gives id n listed was = elim (gains.held id) [
+    gives : (kind : DigestKind) (id : List ℕ) (n : ℕ) → Listed kind id n → GivesChunk kind id n (chunks f id) → GivesChunk kind id n (chunks g id)
+    gives kind id n listed was = elim (gains.held id) [
       | inl same ↦ (was.0, same ∙ was.1, was.2)
-      | inr (c, new, (m, also, is), some) ↦
-          let here = any_first (λ y. GivesChunk kinds.Sha512T256 id n (y id)) (chunks f) stores was in
-          let there = any_later (λ y. GivesChunk kinds.Sha512T256 id m (y id)) (chunks f) stores (any_weaker (λ y. y id ≡ Some c) (λ y. GivesChunk kinds.Sha512T256 id m (y id)) (λ y holds. (c, holds, is)) stores some) in
-          let same : m ≡ n = one id m n also listed there here in
-          (c, new, subst (λ (k : ℕ). IsChunk kinds.Sha512T256 id k c) same is)
+      | inr (c, new, (other, m, also, is), some) ↦
+          let here : SomeGives kind id n (chunks f ∷ stores) = any_first (λ y. GivesChunk kind id n (y id)) (chunks f) stores was in
+          let there : SomeGives other id m (chunks f ∷ stores) = any_later (λ y. GivesChunk other id m (y id)) (chunks f) stores (any_weaker (λ y. y id ≡ Some c) (λ y. GivesChunk other id m (y id)) (λ y holds. (c, holds, is)) stores some) in
+          let alike : other ≡ kind = kinds id other kind m n also listed there here in
+          let same : m ≡ n = sizes kind id m n (subst (λ (k : DigestKind). Listed k id m) alike also) listed (subst (λ (k : DigestKind). SomeGives k id m (chunks f ∷ stores)) alike there) here in
+          (c, new, subst (λ (k : ℕ). IsChunk kind id k c) same (subst (λ (k : DigestKind). IsChunk k id m c) alike is))
     ]
 
 -- nothing is gained
-gains_none : (Listed : List ℕ → ℕ → Type 0) (stores : List (Map (List ℕ))) (f : Map (List ℕ)) → GainsListed Listed stores f f
+gains_none : (Listed : DigestKind → List ℕ → ℕ → Type 0) (stores : List (Map (List ℕ))) (f : Map (List ℕ)) → GainsListed Listed stores f f
 gains_none Listed stores f = record { held = λ id. inl refl; strangers = λ q is. refl }
 
-module _ (over : Evidence) (fs : List (Map (List ℕ))) (holds : over.holds fs) (Listed : List ℕ → ℕ → Type 0) (l : Listing) (among : (id : List ℕ) (n : ℕ) → ListsSize l id n → Listed id n) where
+module _ (over : Evidence) (fs : List (Map (List ℕ))) (holds : over.holds fs) (Listed : DigestKind → List ℕ → ℕ → Type 0) (l : Listing) (among : (id : List ℕ) (n : ℕ) → ListsSize l id n → Listed (kind_of l) id n) where
   gains_on : (f z g : Map (List ℕ)) → GainsListed Listed (map chunks fs) f z → AddsListed over l (Some z) (Some g) → GainsListed Listed (map chunks fs) f g
   gains_on f z g before added = record { held = held; strangers = λ q is. added.strangers q is ∙ before.strangers q is } where
-    held : (id : List ℕ) → (chunks g id ≡ chunks f id) ⊎ ((b : List ℕ) × (chunks g id ≡ Some b) × ((n : ℕ) × Listed id n × IsChunk kinds.Sha512T256 id n b) × Any (λ m. m id ≡ Some b) (map chunks fs))
+    held : (id : List ℕ) → (chunks g id ≡ chunks f id) ⊎ ((b : List ℕ) × (chunks g id ≡ Some b) × ((kind : DigestKind) × (n : ℕ) × Listed kind id n × IsChunk kind id n b) × Any (λ m. m id ≡ Some b) (map chunks fs))
     held id = elim (added.chunks_are id) [
       | inl same ↦ elim (before.held id) [ inl was ↦ inl (same ∙ was) | inr (b, is, listed, some) ↦ inr (b, same ∙ is, listed, some) ]
-      | inr (b, is, ((n, lists, chunk), some)) ↦ inr (b, is, (n, among id n lists, chunk), some fs holds)
+      | inr (b, is, ((n, lists, chunk), some)) ↦ inr (b, is, (kind_of l, n, among id n lists, chunk), some fs holds)
     ]
 
 -- ---- the indexes in order
@@ -114,7 +109,7 @@ module _ (x : Contents) (w u v : World) (at : IsAt x w u) (quiet : IsQuiet w v) 
   abbrev over : Evidence
   over = of_command (storage_of u) (storage_of v) stores cache
 
-  abbrev Listed : List ℕ → ℕ → Type 0
+  abbrev Listed : DigestKind → List ℕ → ℕ → Type 0
   Listed = IsListedAmong x.files indexes_all
 
   abbrev Gains : Map (List ℕ) → Type 0
@@ -129,8 +124,8 @@ module _ (x : Contents) (w u v : World) (at : IsAt x w u) (quiet : IsQuiet w v) 
   listed_here : (q : List ℕ) (l : Listing) → IfSome u.disk.files (λ m. IsListed m q l) → IsListed x.files q l
   listed_here q l h = subst (λ y. IfSome y (λ m. IsListed m q l)) at.has.files h
 
-  among : (q : List ℕ) (indexes : List (List ℕ)) (l : Listing) → IsSome_of (q ∷ indexes) → IsListed x.files q l → (id : List ℕ) (n : ℕ) → ListsSize l id n → Listed id n
-  among q indexes l some is id n lists = record { index = q; named = some q (among_first q indexes); listing = l; listed = is; lists = lists }
+  among : (q : List ℕ) (indexes : List (List ℕ)) (l : Listing) → IsSome_of (q ∷ indexes) → IsListed x.files q l → (id : List ℕ) (n : ℕ) → ListsSize l id n → Listed (kind_of l) id n
+  among q indexes l some is id n lists = record { index = q; named = some q (among_first q indexes); listing = l; listed = is; lists = (refl, lists) }
 
   gained : (q : List ℕ) (indexes : List (List ℕ)) (l : Listing) (r : Result Unit FillFault) → IsSome_of (q ∷ indexes) → IsListed x.files q l → (z : Map (List ℕ)) → Gains z → (y : Option (Map (List ℕ))) → IndexFilled over l (Some z) y r → (g : Map (List ℕ)) × (y ≡ Some g) × Gains g
   gained q indexes l r some is z before y filled =
@@ -157,21 +152,21 @@ module _ (x : Contents) (w u v : World) (at : IsAt x w u) (quiet : IsQuiet w v) 
   not_done (q ∷ indexes) z y o (inr (l, listed, inl (fault, is, filled))) same = fault_not_done fault (sym is ∙ same)
   not_done (q ∷ indexes) z y o (inr (l, listed, inr (c, filled, rest))) same = not_done indexes c y o rest same
 
-  module _ (one : GiveOneSize Listed kinds.Sha512T256 (chunks f ∷ map chunks fs)) where
+  module _ (sizes : (kind : DigestKind) → GiveOneSize (Listed kind) kind (chunks f ∷ map chunks fs)) (kinds : GiveOneKind Listed (chunks f ∷ map chunks fs)) where
     abbrev Given : Listing → ℕ → Type 0
     Given l = IsGivenBy l (chunks f) (map chunks fs)
 
-    module _ (l : Listing) (lists : (id : List ℕ) (n : ℕ) → ListsSize l id n → Listed id n) (z : Map (List ℕ)) (before : Gains z) where
+    module _ (l : Listing) (lists : (id : List ℕ) (n : ℕ) → ListsSize l id n → Listed (kind_of l) id n) (z : Map (List ℕ)) (before : Gains z) where
       given_first : (i : ℕ) → IsGivenBy l (chunks z) (map chunks fs) i → Given l i
-      given_first i (inl here) = gave Listed (map chunks fs) f z before (id_of l i) (size_of l i) here
+      given_first i (inl here) = gave Listed (map chunks fs) f z before (kind_of l) (id_of l i) (size_of l i) here
       given_first i (inr store) = inr store
 
       given_still : (i : ℕ) → i < count_of l → Given l i → IsGivenBy l (chunks z) (map chunks fs) i
-      given_still i lt (inl here) = inl (gives Listed (map chunks fs) f z before one (id_of l i) (size_of l i) (lists (id_of l i) (size_of l i) (i, lt, refl, refl)) here)
+      given_still i lt (inl here) = inl (gives Listed (map chunks fs) f z before sizes kinds (kind_of l) (id_of l i) (size_of l i) (lists (id_of l i) (size_of l i) (i, lt, refl, refl)) here)
       given_still i lt (inr store) = inr store
 
-      one_here : GiveOneSize (ListsSize l) kinds.Sha512T256 (chunks z ∷ map chunks fs)
-      one_here id n m a b c d = one id n m (lists id n a) (lists id m b) (all_gave Listed (map chunks fs) f z before id n c) (all_gave Listed (map chunks fs) f z before id m d)
+      one_here : GiveOneSize (ListsSize l) (kind_of l) (chunks z ∷ map chunks fs)
+      one_here id n m a b c d = sizes (kind_of l) id n m (lists id n a) (lists id m b) (all_gave Listed (map chunks fs) f z before (kind_of l) id n c) (all_gave Listed (map chunks fs) f z before (kind_of l) id m d)
 
       lacking : (k n : ℕ) (id : ChunkId) (r : Refused) (y : Option (Map (List ℕ))) → IsFirstLost l (chunks z) (map chunks fs) k → k ≡ n → n < count_of l → IsNotHad over l y n id r → IsFirstLacking l (Given l) (map chunks fs) k id r
       lacking k n id r y lost same listed had =
@@ -193,7 +188,7 @@ module _ (x : Contents) (w u v : World) (at : IsAt x w u) (quiet : IsQuiet w v) 
       ended_by fills.CacheFault y by h = absurd by
       ended_by fills.Memory y by h = inl refl
 
-    exactly : (l : Listing) (lists : (id : List ℕ) (n : ℕ) → ListsSize l id n → Listed id n) (z : Map (List ℕ)) → Gains z → (y : Option (Map (List ℕ))) (r : Result Unit FillFault) → IndexFilled over l (Some z) y r → FillsBy l (chunks z) (map chunks fs) r
+    exactly : (l : Listing) (lists : (id : List ℕ) (n : ℕ) → ListsSize l id n → Listed (kind_of l) id n) (z : Map (List ℕ)) → Gains z → (y : Option (Map (List ℕ))) (r : Result Unit FillFault) → IndexFilled over l (Some z) y r → FillsBy l (chunks z) (map chunks fs) r
     exactly l lists z before y r filled = filled.exactly fs holding (still_quiet x w u v at quiet) (one_here l lists z before)
 
     -- the rest of them
@@ -263,8 +258,8 @@ module _ (x : Contents) (w u v : World) (at : IsAt x w u) (quiet : IsQuiet w v) 
           inr (
             with_folder x cache g.0,
             tells g.0 g.1,
-            λ one. (
-              all_ordered one indexes_all every f (gains_none Listed (map chunks fs) f) b.now from,
+            λ sizes kinds. (
+              all_ordered sizes kinds indexes_all every f (gains_none Listed (map chunks fs) f) b.now from,
               λ done. is_cached g.0 g.1 filled,
               (g.0, refl, g.2),
             ),
@@ -277,8 +272,8 @@ module _ (x : Contents) (w u v : World) (at : IsAt x w u) (quiet : IsQuiet w v) 
             inr (
               with_folder x cache g.0,
               tells g.0 g.1,
-              λ one. (
-                elim (some_ordered one indexes_all every f (gains_none Listed (map chunks fs) f) b.now o from) [ inl none ↦ absurd (other none) | inr so ↦ so ],
+              λ sizes kinds. (
+                elim (some_ordered sizes kinds indexes_all every f (gains_none Listed (map chunks fs) f) b.now o from) [ inl none ↦ absurd (other none) | inr so ↦ so ],
                 λ done. absurd (not_done indexes_all (Some f) b.now o from done),
                 (g.0, refl, g.2),
               ),

@@ -11,7 +11,7 @@ use Rattle.chunk_sources.specs.Losses.{chunk_of}
 use Rattle.chunk_store.specs.Folders.{chunks}
 use Rattle.chunk_store.specs.Giving.{IsChunk}
 use Rattle.chunk_store.specs.declared.id.ChunkId.{ChunkId}
-use Rattle.chunk_store.specs.declared.id.DigestKind.TheVariants as kinds
+use Rattle.chunk_store.specs.declared.id.DigestKind.{DigestKind}
 use Rattle.command_outcome.specs.declared.outcome.Outcome.{Outcome}
 use Rattle.command_outcome.specs.declared.outcome.Outcome.TheVariants as ends
 use Rattle.command_steps.proofs.Taken.{at_name_twice}
@@ -28,7 +28,7 @@ use Rattle.desync_cli.proofs.ExactCache.{is_memory}
 use Rattle.desync_cli.proofs.Readings.{EndsSo, IsAt, IsQuiet, any_cache_so, at_first, index_so, indexes_so, none_failed, some_not, stores_so}
 use Rattle.desync_cli.specs.AtHand.{into}
 use Rattle.desync_cli.specs.Contents.{Contents, HasContents, folders_at, index_at, indexes_at}
-use Rattle.desync_cli.specs.Exact.{CacheGains, Extracts, GainsListed, IsFirstLacking, NamesLacking, OutBecomes}
+use Rattle.desync_cli.specs.Exact.{CacheGains, Extracts, GainsListed, IsFirstLacking, IsListedBy, NamesLacking, OutBecomes}
 use Rattle.dsy_base.proofs.Counts.{at_same}
 use Rattle.dsy_base.specs.Disk.{Disk}
 use Rattle.dsy_base.specs.Links.{DialState}
@@ -82,18 +82,18 @@ module _ (x : Contents) (w v u : World) (at : IsAt x w u) (quiet : IsQuiet w v) 
 
   -- ---- the cache
 
-  gains_so : (m : Map (Map (List ℕ))) → m ≡ x.folders → (f g : Map (List ℕ)) → CacheGrows l m stores f g → GainsListed (IsListedAs l) (map chunks fs) f g
+  gains_so : (m : Map (Map (List ℕ))) → m ≡ x.folders → (f g : Map (List ℕ)) → CacheGrows l m stores f g → GainsListed (IsListedBy l) (map chunks fs) f g
   gains_so m same f g grows = record { held = held; strangers = grows.strangers } where
     holds : map (location_files m) stores ≡ map Some fs
     holds = subst (λ n. map (location_files n) stores ≡ map Some fs) (sym same) are
 
-    held : (id : List ℕ) → (chunks g id ≡ chunks f id) ⊎ ((b : List ℕ) × (chunks g id ≡ Some b) × ((n : ℕ) × IsListedAs l id n × IsChunk kinds.Sha512T256 id n b) × Any (λ m. m id ≡ Some b) (map chunks fs))
+    held : (id : List ℕ) → (chunks g id ≡ chunks f id) ⊎ ((b : List ℕ) × (chunks g id ≡ Some b) × ((kind : DigestKind) × (n : ℕ) × IsListedBy l kind id n × IsChunk kind id n b) × Any (λ m. m id ≡ Some b) (map chunks fs))
     held id = elim (grows.held id) [
       | inl same ↦ inl same
       | inr (b, is, from) ↦ inr (
         b,
         is,
-        (size_of l from.0, (from.0, from.1, sym from.2, refl), record { named = from.3.named ∙ sym from.2; sized = from.3.sized }),
+        (kind_of l, size_of l from.0, (refl, (from.0, from.1, sym from.2, refl)), record { named = from.3.named ∙ sym from.2; sized = from.3.sized }),
         subst (λ (q : List ℕ). Any (λ m. m q ≡ Some b) (map chunks fs)) (sym from.2) (from.4 fs holds),
       )
     ]

@@ -3,7 +3,7 @@ use Rattle.std.proofs.Common.{ap, cond, ◌≡◌, ◌≢◌, ◌∙◌, ℕ, Bo
 use Rattle.std.proofs.lemmas.Bool.{ne_eqb}
 use Rattle.std.specs.Option.{option_map}
 use Rattle.caibx_codec.specs.Listing.{Listing}
-use Rattle.chunk_store.specs.declared.id.DigestKind.TheVariants.{Sha512T256}
+use Rattle.chunk_store.specs.declared.id.DigestKind.{DigestKind}
 use Rattle.command_outcome.specs.declared.outcome.Outcome.{Outcome}
 use Rattle.command_outcome.specs.declared.outcome.Outcome.TheVariants as ends
 use Rattle.command_steps.proofs.Numbers.{rose_not_quiet}
@@ -58,8 +58,8 @@ module _ (x : Contents) (w v : World) (quiet : IsQuiet w v) where
 
   -- ---- `verify`
 
-  verified_as : (q : List ℕ) (repair : Bool) (f : Map (List ℕ)) (n : ℕ) (o : Outcome) (u : World) → IsAt (taken_from x q) w u → answer_of o ≡ answer_of_left n → VerifiedBack q (Some f) (IsStoreChecked Sha512T256 repair n) u v → v.disk.files ≡ u.disk.files → EndsSo x v (Verifies q repair f) o
-  verified_as q repair f n o u at is h files =
+  verified_as : (kind : DigestKind) (q : List ℕ) (repair : Bool) (f : Map (List ℕ)) (n : ℕ) (o : Outcome) (u : World) → IsAt (taken_from x q) w u → answer_of o ≡ answer_of_left n → VerifiedBack q (Some f) (IsStoreChecked kind repair n) u v → v.disk.files ≡ u.disk.files → EndsSo x v (Verifies kind q repair f) o
+  verified_as kind q repair f n o u at is h files =
       let told = h.change in
       let y : Contents = record { files = x.files; folders = at_name x.folders q (left_of repair told.damaged (Some f)); printed = x.printed ++ text_of_damaged repair told.damaged } in
       inr (
@@ -72,15 +72,15 @@ module _ (x : Contents) (w v : World) (quiet : IsQuiet w v) where
         (told.damaged, told.all, is ∙ ap answer_of_left told.left, refl),
       )
 
-  verified_so : (q : List ℕ) (repair : Bool) (f : Map (List ℕ)) (u : World) → IsAt (taken_from x q) w u → (r : Result Unit Outcome) → StoreVerified q repair (Some f) u r v → EndsSo x v (Verifies q repair f) (outcome_of r)
-  verified_so q repair f u at (Ok _) h = verified_as q repair f 0 ends.Done u at refl h.0 h.1.adds.files
-  verified_so q repair f u at (Err (ends.DamagedLeft n)) h = verified_as q repair f n (ends.DamagedLeft n) u at (left_some n h.0.0) h.0.1 h.1.adds.files where
+  verified_so : (kind : DigestKind) (q : List ℕ) (repair : Bool) (f : Map (List ℕ)) (u : World) → IsAt (taken_from x q) w u → (r : Result Unit Outcome) → StoreVerified kind q repair (Some f) u r v → EndsSo x v (Verifies kind q repair f) (outcome_of r)
+  verified_so kind q repair f u at (Ok _) h = verified_as kind q repair f 0 ends.Done u at refl h.0 h.1.adds.files
+  verified_so kind q repair f u at (Err (ends.DamagedLeft n)) h = verified_as kind q repair f n (ends.DamagedLeft n) u at (left_some n h.0.0) h.0.1 h.1.adds.files where
     left_some : (n : ℕ) → n ≢ 0 → answer_of (ends.DamagedLeft n) ≡ answer_of_left n
     left_some n some = ap (λ b. cond b (Ok tt) (Err (ends.DamagedLeft n))) (sym (ne_eqb n 0 some))
-  verified_so q repair f u at (Err (ends.StoreFault k)) h = absurd (folder_unrisen (taken_from x q) w u v at quiet q h.0.1)
-  verified_so q repair f u at (Err ends.OutFault) h = absurd (rose_not_quiet w.out.faults u.out.faults v.out.faults at.out h.0.0 quiet.out)
-  verified_so q repair f u at (Err ends.Memory) h = inl refl
-  verified_so q repair f u at (Err other) h = absurd h.0
+  verified_so kind q repair f u at (Err (ends.StoreFault k)) h = absurd (folder_unrisen (taken_from x q) w u v at quiet q h.0.1)
+  verified_so kind q repair f u at (Err ends.OutFault) h = absurd (rose_not_quiet w.out.faults u.out.faults v.out.faults at.out h.0.0 quiet.out)
+  verified_so kind q repair f u at (Err ends.Memory) h = inl refl
+  verified_so kind q repair f u at (Err other) h = absurd h.0
 
-  pub verifies_so : (store : List ℕ) (repair : Bool) → HasContents w x → (r : Result Unit Outcome) → VerifyEnds store repair w r v → EndsSo x v (folder_at store (Verifies store repair)) (outcome_of r)
-  verifies_so store repair has = taken_so x w v quiet [] store (Verifies store repair) (StoreVerified store repair) (λ f u there after. verified_so store repair f u after) w (at_first x w has)
+  pub verifies_so : (kind : DigestKind) (store : List ℕ) (repair : Bool) → HasContents w x → (r : Result Unit Outcome) → VerifyEnds kind store repair w r v → EndsSo x v (folder_at store (Verifies kind store repair)) (outcome_of r)
+  verifies_so kind store repair has = taken_so x w v quiet [] store (Verifies kind store repair) (StoreVerified kind store repair) (λ f u there after. verified_so kind store repair f u after) w (at_first x w has)

@@ -11,6 +11,7 @@ use Rattle.buzhash_cut.specs.Sizes.{Sizes}
 use Rattle.caibx_codec.specs.Listing.{Listing, count_of}
 use Rattle.caibx_codec.specs.Spelling.{file_of}
 use Rattle.chunk_store.specs.Folders.{chunks}
+use Rattle.chunk_store.specs.declared.id.DigestKind.{DigestKind}
 use Rattle.command_outcome.specs.declared.outcome.Outcome.{Outcome}
 use Rattle.command_outcome.specs.declared.outcome.Outcome.TheVariants as ends
 use Rattle.command_steps.proofs.Taken.{at_name_twice}
@@ -87,17 +88,17 @@ module _ (x : Contents) (w v : World) (quiet : IsQuiet w v) (q : List ℕ) (f : 
 
   -- ---- `make`
 
-  module _ (s : Sizes) (index image t : List ℕ) where
+  module _ (kind : DigestKind) (s : Sizes) (index image t : List ℕ) where
     -- files that were put are those of the image's one index
-    puts_one : (l : Listing) → IsIndexOfImage s t l → (g : Map (List ℕ)) → PutsFilesOf s (Some t) (Some (chunks f)) (Some f) (Some g) → PutsFiles l (Some t) (Some (chunks f)) (count_of l) (Some f) (Some g)
+    puts_one : (l : Listing) → IsIndexOfImage kind s t l → (g : Map (List ℕ)) → PutsFilesOf kind s (Some t) (Some (chunks f)) (Some f) (Some g) → PutsFiles l (Some t) (Some (chunks f)) (count_of l) (Some f) (Some g)
     puts_one l of_image g (inl same) = record { tells = refl; files = λ p. inl (ap (λ o. unwrap_at o p) same) } where
       unwrap_at : Option (Map (List ℕ)) → List ℕ → Option (List ℕ)
       unwrap_at o p = unwrap_or o f p
-    puts_one l of_image g (inr (m, lists, puts)) = subst (λ (k : Listing). PutsFiles k (Some t) (Some (chunks f)) (count_of k) (Some f) (Some g)) (index_one s t m l lists of_image) puts
+    puts_one l of_image g (inr (m, lists, puts)) = subst (λ (k : Listing). PutsFiles k (Some t) (Some (chunks f)) (count_of k) (Some f) (Some g)) (index_one kind s t m l lists of_image) puts
 
-    unstored : (u : World) → IsAt (taken_from x q) w u → v.disk.files ≡ u.disk.files → v.out ≡ u.out → (o : Outcome) → NotStored s image (Some t) (locations.Folder q) (Some f) (storage_of u) (storage_of v) o → EndsSo x v (Makes s t index q f) o
+    unstored : (u : World) → IsAt (taken_from x q) w u → v.disk.files ≡ u.disk.files → v.out ≡ u.out → (o : Outcome) → NotStored kind s image (Some t) (locations.Folder q) (Some f) (storage_of u) (storage_of v) o → EndsSo x v (Makes kind s t index q f) o
     unstored u at files out ends.TooManyItems h =
-        let g = given_so u v at (λ f g. (g ≡ f) × MadeOf s (Some t) (Err make_faults.TooManyItems) f g) h.1 in
+        let g = given_so u v at (λ f g. (g ≡ f) × MadeOf kind s (Some t) (Err make_faults.TooManyItems) f g) h.1 in
         let same : at_name x.folders q (Some g.0) ≡ x.folders = at_name_own x.folders q (Some g.0) (there ∙ ap Some (sym g.2.0)) in
         inr (
           x,
@@ -114,7 +115,7 @@ module _ (x : Contents) (w v : World) (quiet : IsQuiet w v) (q : List ℕ) (f : 
     unstored u at files out ends.Memory h = inl refl
     unstored u at files out other h = absurd h
 
-    written_so : (bytes : List ℕ) (g : Map (List ℕ)) (e : World) → IsAt (with_folder x q g) w e → (HasTooManyCuts s t → ⊥) → MadeOf s (Some t) (Ok bytes) f g → (r : Result Unit Outcome) → OnDisk (IndexWritten index bytes) e r v → EndsSo x v (Makes s t index q f) (outcome_of r)
+    written_so : (bytes : List ℕ) (g : Map (List ℕ)) (e : World) → IsAt (with_folder x q g) w e → (HasTooManyCuts s t → ⊥) → MadeOf kind s (Some t) (Ok bytes) f g → (r : Result Unit Outcome) → OnDisk (IndexWritten index bytes) e r v → EndsSo x v (Makes kind s t index q f) (outcome_of r)
     written_so bytes g e at few made (Ok _) h =
         let l = made.holds.0 in
         inr (
@@ -130,11 +131,11 @@ module _ (x : Contents) (w v : World) (quiet : IsQuiet w v) (q : List ℕ) (f : 
     written_so bytes g e at few made (Err ends.Memory) h = inl refl
     written_so bytes g e at few made (Err other) h = absurd h.0.0
 
-    stored_so : (u : World) → IsAt (taken_from x q) w u → (r : Result Unit Outcome) → (OnStorage (ImageStored s image (Some t) (locations.Folder q) (Some f)) >>= (λ bytes. OnDisk (IndexWritten index bytes))) u r v → EndsSo x v (Makes s t index q f) (outcome_of r)
-    stored_so u at = bound_so (OnStorage (ImageStored s image (Some t) (locations.Folder q) (Some f))) (λ bytes. OnDisk (IndexWritten index bytes)) (EndsSo x v (Makes s t index q f)) u v
+    stored_so : (u : World) → IsAt (taken_from x q) w u → (r : Result Unit Outcome) → (OnStorage (ImageStored kind s image (Some t) (locations.Folder q) (Some f)) >>= (λ bytes. OnDisk (IndexWritten index bytes))) u r v → EndsSo x v (Makes kind s t index q f) (outcome_of r)
+    stored_so u at = bound_so (OnStorage (ImageStored kind s image (Some t) (locations.Folder q) (Some f))) (λ bytes. OnDisk (IndexWritten index bytes)) (EndsSo x v (Makes kind s t index q f)) u v
         (λ o h. unstored u at h.0.1.adds.files h.1 o h.0.0)
         (λ bytes e r h rest.
-        let g = given_so u e at (MadeOf s (Some t) (Ok bytes)) h.0.1 in
+        let g = given_so u e at (MadeOf kind s (Some t) (Ok bytes)) h.0.1 in
         let adds = h.0.2.adds in
         let after : IsAt (with_folder x q g.0) w e = record {
           has = record { files = adds.files ∙ at.has.files; folders = g.1; printed = ap (λ p. p.taken) h.1 ∙ at.has.printed };
@@ -165,22 +166,22 @@ module _ (x : Contents) (w v : World) (quiet : IsQuiet w v) where
   )
   unsized sizes next has other h = absurd h.0
 
-  pub makes_so : (store : Location) (sizes index image : List ℕ) → IsTrue (are_folders (store ∷ [])) → HasContents w x → (r : Result Unit Outcome) → MakeEnds store sizes index image w r v
-      → EndsSo x v (sizes_at sizes (λ s. image_at image (λ t. folder_at (folder_name store) (Makes s t index (folder_name store))))) (outcome_of r)
-  makes_so (locations.Http host port prefix) sizes index image all has r h = let no : false ≡ true = all in absurd (cc)
-  makes_so (locations.Folder q) sizes index image all has r h = bound_so (Pure (SizesJudged sizes)) then (EndsSo x v (sizes_at sizes next)) w v
+  pub makes_so : (store : Location) (kind : DigestKind) (sizes index image : List ℕ) → IsTrue (are_folders (store ∷ [])) → HasContents w x → (r : Result Unit Outcome) → MakeEnds store kind sizes index image w r v
+      → EndsSo x v (sizes_at sizes (λ s. image_at image (λ t. folder_at (folder_name store) (Makes kind s t index (folder_name store))))) (outcome_of r)
+  makes_so (locations.Http host port prefix) kind sizes index image all has r h = let no : false ≡ true = all in absurd (cc)
+  makes_so (locations.Folder q) kind sizes index image all has r h = bound_so (Pure (SizesJudged sizes)) then (EndsSo x v (sizes_at sizes next)) w v
       (λ o h. unsized sizes next has o h)
       (λ s e r h rest. ends_as x v (next s) (sizes_at sizes next) (outcome_of r)
       (λ y so. subst (λ f. MatchOption f (next (cut_sizes_of sizes) x (outcome_of r) y) (λ fault. Unchanged (ends.Sizes fault) x (outcome_of r) y)) (sym h.0.1) (subst (λ z. next z x (outcome_of r) y) h.0.0 so))
       (imaged s e (subst (IsAt x w) (sym h.1) (at_first x w has)) r rest)) r h where
         next : Sizes → Ending
-        next s = image_at image (λ t. folder_at q (Makes s t index q))
+        next s = image_at image (λ t. folder_at q (Makes kind s t index q))
 
         then : Sizes → Step World Unit
-        then s = OnDisk (ImageOpened image) >>= (λ told. OnDisk (SourceTaken (image ∷ []) (locations.Folder q)) >>= (λ held. OnStorage (ImageStored s image told (locations.Folder q) held) >>= (λ bytes. OnDisk (IndexWritten index bytes))))
+        then s = OnDisk (ImageOpened image) >>= (λ told. OnDisk (SourceTaken (image ∷ []) (locations.Folder q)) >>= (λ held. OnStorage (ImageStored kind s image told (locations.Folder q) held) >>= (λ bytes. OnDisk (IndexWritten index bytes))))
 
         imaged : (s : Sizes) (e : World) → IsAt x w e → (r : Result Unit Outcome) → then s e r v → EndsSo x v (next s) (outcome_of r)
-        imaged s = image_so x w v quiet image (λ t. folder_at q (Makes s t index q))
-            (λ told. OnDisk (SourceTaken (image ∷ []) (locations.Folder q)) >>= (λ held. OnStorage (ImageStored s image told (locations.Folder q) held) >>= (λ bytes. OnDisk (IndexWritten index bytes))))
-            (λ t e at. taken_so x w v quiet (image ∷ []) q (Makes s t index q) (λ held. OnStorage (ImageStored s image (Some t) (locations.Folder q) held) >>= (λ bytes. OnDisk (IndexWritten index bytes)))
-            (λ f u there after. stored_so x w v quiet q f there s index image t u after) e at)
+        imaged s = image_so x w v quiet image (λ t. folder_at q (Makes kind s t index q))
+            (λ told. OnDisk (SourceTaken (image ∷ []) (locations.Folder q)) >>= (λ held. OnStorage (ImageStored kind s image told (locations.Folder q) held) >>= (λ bytes. OnDisk (IndexWritten index bytes))))
+            (λ t e at. taken_so x w v quiet (image ∷ []) q (Makes kind s t index q) (λ held. OnStorage (ImageStored kind s image (Some t) (locations.Folder q) held) >>= (λ bytes. OnDisk (IndexWritten index bytes)))
+            (λ f u there after. stored_so x w v quiet q f there kind s index image t u after) e at)

@@ -4,6 +4,7 @@ use Rattle.std.specs.List.{All}
 use Rattle.std.specs.Option.{option_map}
 use Rattle.caibx_codec.specs.Listing.{Listing, id_of}
 use Rattle.chunk_store.specs.Folders.{chunks}
+use Rattle.chunk_store.specs.declared.id.DigestKind.{DigestKind}
 use Rattle.command_outcome.specs.declared.outcome.Outcome.{Outcome}
 use Rattle.command_outcome.specs.declared.outcome.Outcome.TheVariants as ends
 use Rattle.command_steps.proofs.Numbers.{rose_not_quiet}
@@ -114,10 +115,10 @@ module _ (x : Contents) (w v : World) (quiet : IsQuiet w v) where
 
   -- ---- `demo`
 
-  pub demonstrates_so : (number size : ℕ) → HasContents w x → (r : Result Unit Outcome) → DemoEnds number size w r v → EndsSo x v (Demonstrates number size) (outcome_of r)
-  demonstrates_so number size has = bound_so (Pure (Rehearsed number size)) (λ f. OnOut (Printed (text_of_figures f))) (EndsSo x v (Demonstrates number size)) w v refused
-      (λ f e r h rest. ends_as x v (PrintsText (text_of_figures f)) (Demonstrates number size) (outcome_of r) (λ y so. inl (f, h.0, so)) (prints_so (text_of_figures f) e (subst (IsAt x w) (sym h.1) (at_first x w has)) r rest)) where
-        refused : (o : Outcome) → Pure (Rehearsed number size) w (Err o) v → EndsSo x v (Demonstrates number size) o
+  pub demonstrates_so : (kind : DigestKind) (number size : ℕ) → HasContents w x → (r : Result Unit Outcome) → DemoEnds kind number size w r v → EndsSo x v (Demonstrates kind number size) (outcome_of r)
+  demonstrates_so kind number size has = bound_so (Pure (Rehearsed kind number size)) (λ f. OnOut (Printed (text_of_figures f))) (EndsSo x v (Demonstrates kind number size)) w v refused
+      (λ f e r h rest. ends_as x v (PrintsText (text_of_figures f)) (Demonstrates kind number size) (outcome_of r) (λ y so. inl (f, h.0, so)) (prints_so (text_of_figures f) e (subst (IsAt x w) (sym h.1) (at_first x w has)) r rest)) where
+        refused : (o : Outcome) → Pure (Rehearsed kind number size) w (Err o) v → EndsSo x v (Demonstrates kind number size) o
         refused (ends.Mismatch k got) h = inr (x, subst (λ u. HasContents u x) (sym h.1) has, inr (k, got, h.0, (refl, refl)))
         refused ends.Memory h = inl refl
         refused other h = absurd h.0

@@ -5,6 +5,7 @@ use Rattle.std.specs.Map.{count_at}
 use Rattle.buzhash_cut.specs.Sizes.{Sizes}
 use Rattle.caibx_codec.specs.Listing.{Listing, id_of, kind_of, size_of}
 use Rattle.chunk_sources.specs.Losses.{chunk_of}
+use Rattle.chunk_store.specs.declared.id.DigestKind.{DigestKind}
 use Rattle.command_help.specs.Help.{help_text}
 use Rattle.command_help.specs.declared.help.Topic.TheVariants as topics
 use Rattle.command_line.specs.CommandLine.{command_line}
@@ -196,10 +197,10 @@ module _ (x : Parts) (p : Output) (store : Location) (same : store_at x.stores 0
   first_rose : (w v : Storage) (k : ℕ) → k ≡ 0 → StoreRose w v store → StoreRose w v (store_at x.stores k)
   first_rose w v k is rose = subst (λ n. StoreRose w v (store_at x.stores n)) (sym is) (subst (λ s. StoreRose w v s) (sym same) rose)
 
-  stored_step : (f o : Bool) (z : Sizes) (told : Option (List ℕ)) (held : Option (Map (List ℕ)))
-      → IsStep (behind p) (record { files = f; folders = not (is_folder store); dial = is_folder store; out = o }) x (ImageStored z x.image told store held)
-  stored_step f o z told held = record { fair = fair; leaves = leaves } where
-    fair : (w v : Storage) (r : Outcome) → ImageStored z x.image told store held w (Err r) v → IsFair x r (behind p w) (behind p v)
+  stored_step : (f o : Bool) (kind : DigestKind) (z : Sizes) (told : Option (List ℕ)) (held : Option (Map (List ℕ)))
+      → IsStep (behind p) (record { files = f; folders = not (is_folder store); dial = is_folder store; out = o }) x (ImageStored kind z x.image told store held)
+  stored_step f o kind z told held = record { fair = fair; leaves = leaves } where
+    fair : (w v : Storage) (r : Outcome) → ImageStored kind z x.image told store held w (Err r) v → IsFair x r (behind p w) (behind p v)
     fair w v ends.TooManyItems h = (tt, tt)
     fair w v ends.ImageFault h = (tt, h.0.0)
     fair w v (ends.Changed k was got) h = (tt, tt)
@@ -207,7 +208,7 @@ module _ (x : Parts) (p : Output) (store : Location) (same : store_at x.stores 0
     fair w v ends.Memory h = (tt, tt)
     fair w v other h = absurd h.0
 
-    leaves : (w v : Storage) (r : Result (List ℕ) Outcome) → ImageStored z x.image told store held w r v → IsLeft (record { files = f; folders = not (is_folder store); dial = is_folder store; out = o }) (behind p w) (behind p v)
+    leaves : (w v : Storage) (r : Result (List ℕ) Outcome) → ImageStored kind z x.image told store held w r v → IsLeft (record { files = f; folders = not (is_folder store); dial = is_folder store; out = o }) (behind p w) (behind p v)
     leaves w v (Ok bytes) h = stocked f p store h.2
     leaves w v (Err r) h = stocked f p store h.1
 
@@ -234,19 +235,19 @@ written_step f n o x p q bytes = record { fair = written_fair (record { files = 
 
 -- ---- the steps of `verify` and `prune`
 
-verified_step : (n : Bool) (x : Parts) (q : List ℕ) (repair : Bool) (held : Option (Map (List ℕ))) → store_at x.stores 0 ≡ locations.Folder q → IsStep whole (record { files = true; folders = false; dial = n; out = false }) x (StoreVerified q repair held)
-verified_step n x q repair held same = record { fair = fair; leaves = leaves } where
+verified_step : (n : Bool) (x : Parts) (kind : DigestKind) (q : List ℕ) (repair : Bool) (held : Option (Map (List ℕ))) → store_at x.stores 0 ≡ locations.Folder q → IsStep whole (record { files = true; folders = false; dial = n; out = false }) x (StoreVerified kind q repair held)
+verified_step n x kind q repair held same = record { fair = fair; leaves = leaves } where
   left : (w v : World) → KeepsCounts w v → IsLeft (record { files = true; folders = false; dial = n; out = false }) w v
   left w v c = record { keeps = record { files = λ t. c.adds.files; folders = λ t. absurd (cc); dial = λ t. c.dial; out = λ t. absurd (cc) }; files = c.adds.counts; folders = c.adds.folder_counts; dial = dials_same w.dial v.dial c.dial; out = c.out }
 
-  fair : (w v : World) (o : Outcome) → StoreVerified q repair held w (Err o) v → IsFair x o w v
+  fair : (w v : World) (o : Outcome) → StoreVerified kind q repair held w (Err o) v → IsFair x o w v
   fair w v (ends.DamagedLeft n) h = (tt, tt)
   fair w v (ends.StoreFault k) h = (tt, subst (λ n. StoreRose (storage_of w) (storage_of v) (store_at x.stores n)) (sym h.0.0) (subst (λ s. StoreRose (storage_of w) (storage_of v) s) (sym same) h.0.1))
   fair w v ends.OutFault h = (tt, h.0.0)
   fair w v ends.Memory h = (tt, tt)
   fair w v other h = absurd h.0
 
-  leaves : (w v : World) (r : Result Unit Outcome) → StoreVerified q repair held w r v → IsLeft (record { files = true; folders = false; dial = n; out = false }) w v
+  leaves : (w v : World) (r : Result Unit Outcome) → StoreVerified kind q repair held w r v → IsLeft (record { files = true; folders = false; dial = n; out = false }) w v
   leaves w v (Ok u) h = left w v h.1
   leaves w v (Err o) h = left w v h.1
 
@@ -270,15 +271,15 @@ unheard_step f n o x p h q = record { fair = λ d e r t. (taken_step f n o x p [
   leaves d e (Ok held) t = (taken_step f n o x p [] q).leaves d e (Ok held) t
   leaves d e (Err r) t = (taken_step f n o x p [] q).leaves d e (Err r) t.0
 
-served_step : (f n o : Bool) (x : Parts) (p : Unread) (in_turn : Bool) (h : Heard) (writable : Bool) (q : List ℕ) (held : Option (Map (List ℕ))) → x.listener ≡ (h.old.faults, h.new.faults)
-    → IsStep (round p) (record { files = f; folders = false; dial = n; out = o }) x (FolderServed in_turn h writable q held)
-served_step f n o x p in_turn h writable q held same = record { fair = fair; leaves = leaves } where
-  fair : (d e : Disk) (r : Outcome) → FolderServed in_turn h writable q held d (Err r) e → IsFair x r (round p d) (round p e)
+served_step : (f n o : Bool) (x : Parts) (p : Unread) (kind : DigestKind) (in_turn : Bool) (h : Heard) (writable : Bool) (q : List ℕ) (held : Option (Map (List ℕ))) → x.listener ≡ (h.old.faults, h.new.faults)
+    → IsStep (round p) (record { files = f; folders = false; dial = n; out = o }) x (FolderServed kind in_turn h writable q held)
+served_step f n o x p kind in_turn h writable q held same = record { fair = fair; leaves = leaves } where
+  fair : (d e : Disk) (r : Outcome) → FolderServed kind in_turn h writable q held d (Err r) e → IsFair x r (round p d) (round p e)
   fair d e ends.ListenFault t = (tt, subst (λ (y : ℕ × ℕ). Rose y.0 y.1) (sym same) t.0.0)
   fair d e ends.Memory t = (tt, tt)
   fair d e other t = absurd t.0
 
-  leaves : (d e : Disk) (r : Result Unit Outcome) → FolderServed in_turn h writable q held d r e → IsLeft (record { files = f; folders = false; dial = n; out = o }) (round p d) (round p e)
+  leaves : (d e : Disk) (r : Result Unit Outcome) → FolderServed kind in_turn h writable q held d r e → IsLeft (record { files = f; folders = false; dial = n; out = o }) (round p d) (round p e)
   leaves d e (Ok u) t = adds p t.1
   leaves d e (Err r) t = adds p t.1
 
@@ -286,28 +287,28 @@ judged_fair : (x : Parts) (sizes : List ℕ) (o : Outcome) (w v : World) → Siz
 judged_fair x sizes (ends.Sizes fault) w v h = (tt, tt)
 judged_fair x sizes other w v h = absurd h
 
-rehearsed_fair : (x : Parts) (number size : ℕ) (o : Outcome) (w v : World) → Rehearsed number size (Err o) → IsFair x o w v
-rehearsed_fair x number size (ends.Mismatch k got) w v h = (tt, tt)
-rehearsed_fair x number size ends.Memory w v h = (tt, tt)
-rehearsed_fair x number size other w v h = absurd h
+rehearsed_fair : (x : Parts) (kind : DigestKind) (number size : ℕ) (o : Outcome) (w v : World) → Rehearsed kind number size (Err o) → IsFair x o w v
+rehearsed_fair x kind number size (ends.Mismatch k got) w v h = (tt, tt)
+rehearsed_fair x kind number size ends.Memory w v h = (tt, tt)
+rehearsed_fair x kind number size other w v h = absurd h
 
 -- ---- the commands
 
 command_step : (sure : Bool) (h : Heard) (c : Command) → IsStep whole (spares c) (parts h c) (CommandEnds sure h c)
-command_step sure h (commands.Make store sizes workers index image) = bound (pure_step (SizesJudged sizes) (judged_fair (parts h (commands.Make store sizes workers index image)) sizes)) (λ z. bound (on_disk (λ p. image_step _ _ p)) (λ told. bound (on_disk (λ p. source_taken_step _ _ _ _ p _ store)) (λ held. bound (on_sources (λ p. stored_step _ p store refl _ _ z told held)) (λ bytes. on_disk (λ p. written_step _ _ _ _ p index bytes)))))
+command_step sure h (commands.Make store sizes workers digest index image) = bound (pure_step (SizesJudged sizes) (judged_fair (parts h (commands.Make store sizes workers digest index image)) sizes)) (λ z. bound (on_disk (λ p. image_step _ _ p)) (λ told. bound (on_disk (λ p. source_taken_step _ _ _ _ p _ store)) (λ held. bound (on_sources (λ p. stored_step _ p store refl _ _ digest z told held)) (λ bytes. on_disk (λ p. written_step _ _ _ _ p index bytes)))))
 command_step sure h (commands.VerifyIndex workers index image) = bound (on_disk (λ p. index_step _ _ p index)) (λ l. bound (on_disk (λ p. image_step _ _ p)) (λ told. on_disk (λ p. checked_step _ _ p l told)))
 command_step sure h (commands.Chop store workers index image) = bound (on_disk (λ p. index_step _ _ p index)) (λ l. bound (on_disk (λ p. image_step _ _ p)) (λ told. bound (on_disk (λ p. source_taken_step _ _ _ _ p _ store)) (λ held. on_sources (λ p. chopped_step _ p store refl _ _ l told held))))
 command_step sure h (commands.Cache stores cache workers indexes) = bound (on_disk (λ p. sources_step _ _ p stores)) (λ u. bound (on_disk (λ p. cache_step _ _ p stores (Some cache))) (λ u. on_sources (λ p. filled_step _ _ (parts h (commands.Cache stores cache workers indexes)) p workers indexes)))
 command_step sure h (commands.ListChunks index) = bound (on_disk (λ p. index_step _ _ p index)) (λ l. on_out (λ d. printed_step _ _ _ _ d (text_of_chunks l)))
 command_step sure h (commands.Extract stores seeds cache in_place workers index target) = bound (on_disk (λ p. index_step _ _ p index)) (λ l. bound (on_disk (λ p. indexes_step _ _ p seeds)) (λ ls. bound (on_disk (λ p. sources_step _ _ p stores)) (λ u. bound (on_disk (λ p. cache_step _ _ p stores cache)) (λ u. out_step (never_fail sure h.never_fails) _ (parts h (commands.Extract stores seeds cache in_place workers index target)) cache l (record { images = map image_name seeds; listings = ls }) in_place target refl))))
 command_step sure h (commands.Info stores index) = bound (on_disk (λ p. index_step _ _ p index)) (λ l. bound (on_sources (λ p. counted_step _ _ p (λ t. t) l)) (λ n. on_out (λ d. printed_step _ _ _ _ d (text_of_info l n))))
-command_step sure h (commands.Verify store repair workers) = bound (on_disk (λ p. taken_step _ _ _ _ p [] store)) (λ held. verified_step _ _ store repair held refl)
+command_step sure h (commands.Verify store repair workers digest) = bound (on_disk (λ p. taken_step _ _ _ _ p [] store)) (λ held. verified_step _ _ digest store repair held refl)
 command_step sure h (commands.Prune store indexes) = bound (on_disk (λ p. indexes_step _ _ p indexes)) (λ ls. bound (on_disk (λ p. taken_step _ _ _ _ p [] store)) (λ held. on_disk (λ p. pruned_step _ _ _ _ p (is_listed_in ls) store held refl)))
-command_step sure h (commands.Demo number size workers) = bound (pure_step (Rehearsed number size) (rehearsed_fair (parts h (commands.Demo number size workers)) number size)) (λ f. on_out (λ d. printed_step _ _ _ _ d (text_of_figures f)))
+command_step sure h (commands.Demo number size workers digest) = bound (pure_step (Rehearsed digest number size) (rehearsed_fair (parts h (commands.Demo number size workers digest)) digest number size)) (λ f. on_out (λ d. printed_step _ _ _ _ d (text_of_figures f)))
 command_step sure h commands.Help = on_out (λ d. printed_step _ _ _ _ d (help_text topics.All))
 command_step sure h commands.Version = on_out (λ d. printed_step _ _ _ _ d (help_text topics.Version))
 command_step sure h (commands.HelpOn kind) = on_out (λ d. printed_step _ _ _ _ d (help_text (topics.Command kind)))
-command_step sure h (commands.ChunkServer store host port writable workers) = bound (on_disk (λ p. unheard_step _ _ _ _ p h store)) (λ held. on_disk (λ p. served_step _ _ _ _ p (workers == 1) h writable store held refl))
+command_step sure h (commands.ChunkServer store host port writable workers digest) = bound (on_disk (λ p. unheard_step _ _ _ _ p h store)) (λ held. on_disk (λ p. served_step _ _ _ _ p digest (workers == 1) h writable store held refl))
 
 -- a command that listens is none that doesn't
 pub none_such : {A : Type 0} → true ≡ false → A
@@ -399,7 +400,7 @@ words_quiet words other h = absurd h
 
 -- a listener that isn't used hasn't failed
 quiet_listener : (k : Heard) (c : Command) → Quiet k.old.faults k.new.faults → Quiet (parts k c).listener.0 (parts k c).listener.1
-quiet_listener k (commands.ChunkServer store host port writable workers) h = h
+quiet_listener k (commands.ChunkServer store host port writable workers digest) h = h
 quiet_listener k other h = record { same = omega arith; below = omega arith }
 
 pub nothing_failed : (sure : Bool) (k : Heard) (words : List (List ℕ)) (w v : World) (r : Result Unit Outcome) → DesyncEnds sure k words w r v → NoFault w v → Quiet k.old.faults k.new.faults → IfSome (command_of words) (λ c. All (RepliesTaken w v) (parts k c).stores) → NothingFailed (outcome_of r)

@@ -3,6 +3,7 @@
 use Rattle.std.proofs.Common.{◌≡◌, ℕ, ◌≤◌, List, [], ◌∷◌, length, map, Bool, true, false, Option, Some, None, Result, Err, ap, inl, inr, arith}
 use Rattle.caibx_codec.specs.Listing.{Listing}
 use Rattle.buzhash_cut.specs.Sizes.{Sizes}
+use Rattle.chunk_store.specs.declared.id.DigestKind.{DigestKind}
 use Rattle.command_outcome.specs.ErrorLines.{name_in}
 use Rattle.command_outcome.specs.declared.outcome.Outcome.{Outcome}
 use Rattle.command_outcome.specs.declared.outcome.Outcome.TheVariants as ends
@@ -148,13 +149,13 @@ module _ (n : ℕ) where
   pub judged : (sizes : List ℕ) → Shorts n (Pure (SizesJudged sizes))
   judged sizes = record { short = judged_tells sizes }
 
-  rehearsed_tells : (number size : ℕ) (w v : World) (o : Outcome) → Pure (Rehearsed number size) w (Err o) v → length (name_in o) ≤ n
-  rehearsed_tells number size w v (ends.Mismatch k got) h = omega arith
-  rehearsed_tells number size w v ends.Memory h = omega arith
-  rehearsed_tells number size w v other h = absurd h.0
+  rehearsed_tells : (kind : DigestKind) (number size : ℕ) (w v : World) (o : Outcome) → Pure (Rehearsed kind number size) w (Err o) v → length (name_in o) ≤ n
+  rehearsed_tells kind number size w v (ends.Mismatch k got) h = omega arith
+  rehearsed_tells kind number size w v ends.Memory h = omega arith
+  rehearsed_tells kind number size w v other h = absurd h.0
 
-  pub rehearsed : (number size : ℕ) → Shorts n (Pure (Rehearsed number size))
-  rehearsed number size = record { short = rehearsed_tells number size }
+  pub rehearsed : (kind : DigestKind) (number size : ℕ) → Shorts n (Pure (Rehearsed kind number size))
+  rehearsed kind number size = record { short = rehearsed_tells kind number size }
 
   printed_tells : (text : List ℕ) → Tells n (Printed text)
   printed_tells text p q ends.OutFault h = omega arith
@@ -164,16 +165,16 @@ module _ (n : ℕ) where
   pub printed : (text : List ℕ) → Shorts n (Printed text)
   printed text = record { short = printed_tells text }
 
-  stored_tells : (s : Sizes) (image : List ℕ) (told : Option (List ℕ)) (store : Location) (held : Option (Map (List ℕ))) → Tells n (ImageStored s image told store held)
-  stored_tells s image told store held w v ends.TooManyItems h = omega arith
-  stored_tells s image told store held w v ends.ImageFault h = omega arith
-  stored_tells s image told store held w v (ends.Changed k was got) h = omega arith
-  stored_tells s image told store held w v (ends.StoreFault k) h = omega arith
-  stored_tells s image told store held w v ends.Memory h = omega arith
-  stored_tells s image told store held w v other h = absurd h.0
+  stored_tells : (kind : DigestKind) (s : Sizes) (image : List ℕ) (told : Option (List ℕ)) (store : Location) (held : Option (Map (List ℕ))) → Tells n (ImageStored kind s image told store held)
+  stored_tells kind s image told store held w v ends.TooManyItems h = omega arith
+  stored_tells kind s image told store held w v ends.ImageFault h = omega arith
+  stored_tells kind s image told store held w v (ends.Changed k was got) h = omega arith
+  stored_tells kind s image told store held w v (ends.StoreFault k) h = omega arith
+  stored_tells kind s image told store held w v ends.Memory h = omega arith
+  stored_tells kind s image told store held w v other h = absurd h.0
 
-  pub stored : (s : Sizes) (image : List ℕ) (told : Option (List ℕ)) (store : Location) (held : Option (Map (List ℕ))) → Shorts n (ImageStored s image told store held)
-  stored s image told store held = record { short = stored_tells s image told store held }
+  pub stored : (kind : DigestKind) (s : Sizes) (image : List ℕ) (told : Option (List ℕ)) (store : Location) (held : Option (Map (List ℕ))) → Shorts n (ImageStored kind s image told store held)
+  stored kind s image told store held = record { short = stored_tells kind s image told store held }
 
   chopped_tells : (l : Listing) (image : List ℕ) (told : Option (List ℕ)) (store : Location) (held : Option (Map (List ℕ))) → Tells n (ImageChopped l image told store held)
   chopped_tells l image told store held w v (ends.Length k) h = omega arith
@@ -216,23 +217,23 @@ module _ (n : ℕ) where
   pub pruned : (keeps : List ℕ → Bool) (q : List ℕ) (held : Option (Map (List ℕ))) → Shorts n (StorePruned keeps q held)
   pruned keeps q held = record { short = pruned_tells keeps q held }
 
-  verified_tells : (q : List ℕ) (repair : Bool) (held : Option (Map (List ℕ))) → Tells n (StoreVerified q repair held)
-  verified_tells q repair held w v (ends.DamagedLeft k) h = omega arith
-  verified_tells q repair held w v (ends.StoreFault k) h = omega arith
-  verified_tells q repair held w v ends.OutFault h = omega arith
-  verified_tells q repair held w v ends.Memory h = omega arith
-  verified_tells q repair held w v other h = absurd h.0
+  verified_tells : (kind : DigestKind) (q : List ℕ) (repair : Bool) (held : Option (Map (List ℕ))) → Tells n (StoreVerified kind q repair held)
+  verified_tells kind q repair held w v (ends.DamagedLeft k) h = omega arith
+  verified_tells kind q repair held w v (ends.StoreFault k) h = omega arith
+  verified_tells kind q repair held w v ends.OutFault h = omega arith
+  verified_tells kind q repair held w v ends.Memory h = omega arith
+  verified_tells kind q repair held w v other h = absurd h.0
 
-  pub verified : (q : List ℕ) (repair : Bool) (held : Option (Map (List ℕ))) → Shorts n (StoreVerified q repair held)
-  verified q repair held = record { short = verified_tells q repair held }
+  pub verified : (kind : DigestKind) (q : List ℕ) (repair : Bool) (held : Option (Map (List ℕ))) → Shorts n (StoreVerified kind q repair held)
+  verified kind q repair held = record { short = verified_tells kind q repair held }
 
-  served_tells : (in_turn : Bool) (h : Heard) (writable : Bool) (q : List ℕ) (held : Option (Map (List ℕ))) → Tells n (FolderServed in_turn h writable q held)
-  served_tells in_turn h writable q held d e ends.ListenFault t = omega arith
-  served_tells in_turn h writable q held d e ends.Memory t = omega arith
-  served_tells in_turn h writable q held d e other t = absurd t.0
+  served_tells : (kind : DigestKind) (in_turn : Bool) (h : Heard) (writable : Bool) (q : List ℕ) (held : Option (Map (List ℕ))) → Tells n (FolderServed kind in_turn h writable q held)
+  served_tells kind in_turn h writable q held d e ends.ListenFault t = omega arith
+  served_tells kind in_turn h writable q held d e ends.Memory t = omega arith
+  served_tells kind in_turn h writable q held d e other t = absurd t.0
 
-  pub served : (in_turn : Bool) (h : Heard) (writable : Bool) (q : List ℕ) (held : Option (Map (List ℕ))) → Shorts n (FolderServed in_turn h writable q held)
-  served in_turn h writable q held = record { short = served_tells in_turn h writable q held }
+  pub served : (kind : DigestKind) (in_turn : Bool) (h : Heard) (writable : Bool) (q : List ℕ) (held : Option (Map (List ℕ))) → Shorts n (FolderServed kind in_turn h writable q held)
+  served kind in_turn h writable q held = record { short = served_tells kind in_turn h writable q held }
 
   written_tells : (q bytes : List ℕ) → length q ≤ n → Tells n (IndexWritten q bytes)
   written_tells q bytes le d e o h = not_written q le d e o h.0

@@ -3,7 +3,7 @@ use Rattle.std.proofs.Common.{◌≡◌, ℕ, List, Bool, Option, Some, None, If
 use Rattle.std.specs.List.{AllZip}
 use Rattle.std.specs.Option.{option_map}
 use Rattle.caibx_codec.specs.Listing.{Listing}
-use Rattle.chunk_store.specs.declared.id.DigestKind.TheVariants.{Sha512T256}
+use Rattle.chunk_store.specs.declared.id.DigestKind.{DigestKind}
 use Rattle.command_steps.specs.InputFiles.{IsListed}
 use Rattle.command_worlds.specs.Worlds.{World}
 use Rattle.command_steps.proofs.Taken.{at_name_twice}
@@ -48,25 +48,25 @@ pruned_to store indexes w v h =
     (between.back ∙ ap (option_map (λ (m : Map (Map (List ℕ))). at_name m store between.files)) (taken.did.0.1.0 ∙ ap (option_map (λ (m : Map (Map (List ℕ))). at_name m store None)) folders))
     between.change
 
-module _ (store : List ℕ) (repair : Bool) (before taken : Option (List ℕ)) where
+module _ (kind : DigestKind) (store : List ℕ) (repair : Bool) (before taken : Option (List ℕ)) where
   verified_over : (y z : Option (Map (Map (List ℕ)))) (held files : Option (Map (List ℕ))) → Taken store y held → z ≡ given_back store y files
-      → IsStoreChecked Sha512T256 repair 0 (record { old = held; new = files; before = before; taken = taken }) → IfSome y (λ n. IfSome z (λ m. IsVerifiedStore n m before taken store repair))
+      → IsStoreChecked kind repair 0 (record { old = held; new = files; before = before; taken = taken }) → IfSome y (λ n. IfSome z (λ m. IsVerifiedStore kind n m before taken store repair))
   verified_over None z held files was back change = tt
   verified_over (Some n) None held files was back change = tt
   verified_over (Some n) (Some m) held files was back change = record {
     held = was.0;
     folder_was = was.1;
     damaged = change.damaged;
-    all = subst (λ (o : Option (Map (List ℕ))). IfSome o (λ f. AreDamaged Sha512T256 f change.damaged)) was.2 change.all;
+    all = subst (λ (o : Option (Map (List ℕ))). IfSome o (λ f. AreDamaged kind f change.damaged)) was.2 change.all;
     folder_is = back_is store n m files back ∙ ap (λ o. at_name n store o) (change.told.files ∙ ap (left_of repair change.damaged) was.2);
     text = change.told.text;
     none = change.left;
   }
 
-pub verified_store : (store : List ℕ) (repair : Bool) (w v : World) → VerifyEnds store repair w (Ok tt) v
-    → IfSome w.disk.folders (λ f. IfSome v.disk.folders (λ g. IsVerifiedStore f g w.out.taken v.out.taken store repair))
-verified_store store repair w v h =
+pub verified_store : (kind : DigestKind) (store : List ℕ) (repair : Bool) (w v : World) → VerifyEnds kind store repair w (Ok tt) v
+    → IfSome w.disk.folders (λ f. IfSome v.disk.folders (λ g. IsVerifiedStore kind f g w.out.taken v.out.taken store repair))
+verified_store kind store repair w v h =
     let between = h.then.0 in
-    verified_over store repair w.out.taken v.out.taken w.disk.folders v.disk.folders h.gave between.files h.did.0.0
+    verified_over kind store repair w.out.taken v.out.taken w.disk.folders v.disk.folders h.gave between.files h.did.0.0
     (between.back ∙ ap (option_map (λ (m : Map (Map (List ℕ))). at_name m store between.files)) h.did.0.1.0)
-    (subst (λ (t : Option (List ℕ)). IsStoreChecked Sha512T256 repair 0 (record { old = h.gave; new = between.files; before = t; taken = v.out.taken })) (ap (λ p. p.taken) h.did.2) between.change)
+    (subst (λ (t : Option (List ℕ)). IsStoreChecked kind repair 0 (record { old = h.gave; new = between.files; before = t; taken = v.out.taken })) (ap (λ p. p.taken) h.did.2) between.change)

@@ -6,6 +6,7 @@ use Rattle.buzhash_cut.specs.Sizes.{Sizes}
 use Rattle.caibx_codec.specs.Listing.{Listing}
 use Rattle.caibx_codec.specs.Right.{IsRight}
 use Rattle.caibx_codec.specs.Spelling.{IsIndexFile}
+use Rattle.chunk_store.specs.declared.id.DigestKind.{DigestKind}
 use Rattle.command_worlds.specs.Worlds.{world}
 use Rattle.command_words.specs.declared.command.Command.{Command}
 use Rattle.command_words.specs.declared.command.Command.TheVariants as commands
@@ -22,9 +23,9 @@ abbrev tells : Map (List ℕ) → Map (Map (List ℕ)) → Map ℕ → Map ℕ �
 tells files folders counts folder_counts = record { files = Some files; folders = Some folders; file_counts = counts; folder_counts = folder_counts }
 
 module _ (one : (b : List ℕ) (l m : Listing) → IsIndexFile b l → IsIndexFile b m → l ≡ m)
-    (law : (s : Sizes) (image t : List ℕ) (l : Listing) → IsIndexOfImage s image l → IsRight t l → (t ≡ image) ⊎ HasTwins t image l) where
-  back : (before between after : Map (List ℕ)) (sizes index image out : List ℕ) (l : Listing) → IsMade before between sizes index image l → IsExtracted between after index out → ComesBack before after image out
-  back before between after sizes index image out l m x =
+    (law : (kind : DigestKind) (s : Sizes) (image t : List ℕ) (l : Listing) → IsIndexOfImage kind s image l → IsRight t l → (t ≡ image) ⊎ HasTwins t image l) where
+  back : (before between after : Map (List ℕ)) (kind : DigestKind) (sizes index image out : List ℕ) (l : Listing) → IsMade before between kind sizes index image l → IsExtracted between after index out → ComesBack before after image out
+  back before between after kind sizes index image out l m x =
       let read : Some x.listed.bytes ≡ Some m.file = sym x.listed.there ∙ m.written in
       let bytes : x.listed.bytes ≡ m.file = cc in
       let same : x.listing ≡ l = one m.file x.listing l (subst (λ b. IsIndexFile b x.listing) bytes x.listed.file) m.is_file in
@@ -34,16 +35,16 @@ module _ (one : (b : List ℕ) (l m : Listing) → IsIndexFile b l → IsIndexFi
         now = x.image;
         is = x.holds;
         listing = l;
-        same = law _ m.bytes x.image l m.of_image (subst (λ l. IsRight x.image l) same x.right);
+        same = law kind _ m.bytes x.image l m.of_image (subst (λ l. IsRight x.image l) same x.right);
       }
 
   over : (x y : Heard) (first then : Command) (b m a : Map (List ℕ)) (f g h : Map (Map (List ℕ))) (bc fc mc gc ac hc : Map ℕ) (i j k : DialState) (p q r : Output) → Achieves false x first (world (tells b f bc fc) i p) (world (tells m g mc gc) j q) → Achieves false y then (world (tells m g mc gc) j q) (world (tells a h ac hc) k r)
       → RoundTrip (Some first) (Some then) b a
-  over x y (commands.Make store sizes workers index image) (commands.Extract stores seeds cache in_place n other out) b m a f g h bc fc mc gc ac hc i j k p q r made got = λ same. back b m a sizes index image out made.0 made.1 (subst (λ i. IsExtracted m a i out) same got)
+  over x y (commands.Make store sizes workers digest index image) (commands.Extract stores seeds cache in_place n other out) b m a f g h bc fc mc gc ac hc i j k p q r made got = λ same. back b m a digest sizes index image out made.0 made.1 (subst (λ i. IsExtracted m a i out) same got)
   over x y first then b m a f g h bc fc mc gc ac hc i j k p q r made got = tt
 
   no_second : (first : Command) (b a : Map (List ℕ)) → RoundTrip (Some first) None b a
-  no_second (commands.Make store sizes workers index image) b a = tt
+  no_second (commands.Make store sizes workers digest index image) b a = tt
   no_second other b a = tt
 
   pub round_trip : (x y : Heard) (first then : Option Command) (b m a : Map (List ℕ)) (f g h : Map (Map (List ℕ))) (bc fc mc gc ac hc : Map ℕ) (i j k : DialState) (p q r : Output) → IfSome first (λ c. Achieves false x c (world (tells b f bc fc) i p) (world (tells m g mc gc) j q)) → IfSome then (λ c. Achieves false y c (world (tells m g mc gc) j q) (world (tells a h ac hc) k r))

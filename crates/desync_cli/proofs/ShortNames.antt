@@ -40,21 +40,21 @@ named (Some q) = q ∷ []
 
 -- each is no longer than this
 abbrev HasShort : ℕ → Command → Type 0
-HasShort n (commands.Make store sizes workers index image) = (length (folder_name store) ≤ n) × (length index ≤ n) × (length image ≤ n)
+HasShort n (commands.Make store sizes workers digest index image) = (length (folder_name store) ≤ n) × (length index ≤ n) × (length image ≤ n)
 HasShort n (commands.VerifyIndex workers index image) = (length index ≤ n) × (length image ≤ n)
 HasShort n (commands.Chop store workers index image) = (length (folder_name store) ≤ n) × (length index ≤ n) × (length image ≤ n)
 HasShort n (commands.Cache stores cache workers indexes) = AllShort n (map folder_name stores) × (length cache ≤ n) × AllShort n indexes
 HasShort n (commands.ListChunks index) = length index ≤ n
 HasShort n (commands.Extract stores seeds cache in_place workers index target) = AllShort n (map folder_name stores) × AllShort n seeds × AllShort n (named cache) × (length index ≤ n) × (length (temporary_out target) ≤ n) × (length target ≤ n)
 HasShort n (commands.Info stores index) = AllShort n (map folder_name stores) × (length index ≤ n)
-HasShort n (commands.Verify store repair workers) = length store ≤ n
+HasShort n (commands.Verify store repair workers digest) = length store ≤ n
 HasShort n (commands.Prune store indexes) = (length store ≤ n) × AllShort n indexes
-HasShort n (commands.ChunkServer store host port writable workers) = length store ≤ n
+HasShort n (commands.ChunkServer store host port writable workers digest) = length store ≤ n
 HasShort n other = Unit {0}
 
 -- and so are those that its refusals tell
 command_short : (n : ℕ) (sure : Bool) (h : Heard) (c : Command) → HasShort n c → Shorts n (CommandEnds sure h c)
-command_short n sure h (commands.Make store sizes workers index image) f = bound (sizes_judged n sizes) (λ z. bound (on_disk (image_opened n image f.2)) (λ told. bound (on_disk (source_taken n _ store f.0)) (λ held. bound (on_sources (stored n z image told store held)) (λ bytes. on_disk (written n index bytes f.1)))))
+command_short n sure h (commands.Make store sizes workers digest index image) f = bound (sizes_judged n sizes) (λ z. bound (on_disk (image_opened n image f.2)) (λ told. bound (on_disk (source_taken n _ store f.0)) (λ held. bound (on_sources (stored n digest z image told store held)) (λ bytes. on_disk (written n index bytes f.1)))))
 command_short n sure h (commands.VerifyIndex workers index image) f = bound (on_disk (index_read n index f.0)) (λ l. bound (on_disk (image_opened n image f.1)) (λ told. on_disk (checked n image l told)))
 command_short n sure h (commands.Chop store workers index image) f = bound (on_disk (index_read n index f.1)) (λ l. bound (on_disk (image_opened n image f.2)) (λ told. bound (on_disk (source_taken n _ store f.0)) (λ held. on_sources (chopped n l image told store held))))
 command_short n sure h (commands.Cache stores cache workers indexes) f = bound (on_disk (opened n stores f.0)) (λ u. bound (on_disk (cache_opened n stores (Some cache) (f.1, tt))) (λ u. on_sources (filled n stores cache workers indexes f.2)))
@@ -64,13 +64,13 @@ command_short n sure h (commands.Extract stores seeds cache in_place workers ind
   cached None all = all
   cached (Some q) all = all
 command_short n sure h (commands.Info stores index) f = bound (on_disk (index_read n index f.1)) (λ l. bound (on_sources (counted n stores f.0 l)) (λ k. on_out (printed n _)))
-command_short n sure h (commands.Verify store repair workers) f = bound (on_disk (taken n store f)) (λ held. verified n store repair held)
+command_short n sure h (commands.Verify store repair workers digest) f = bound (on_disk (taken n store f)) (λ held. verified n digest store repair held)
 command_short n sure h (commands.Prune store indexes) f = bound (on_disk (indexes_read n indexes f.1)) (λ ls. bound (on_disk (taken n store f.0)) (λ held. on_disk (pruned n _ store held)))
-command_short n sure h (commands.Demo number size workers) f = bound (rehearsed n number size) (λ g. on_out (printed n _))
+command_short n sure h (commands.Demo number size workers digest) f = bound (rehearsed n digest number size) (λ g. on_out (printed n _))
 command_short n sure h commands.Help f = on_out (printed n _)
 command_short n sure h commands.Version f = on_out (printed n _)
 command_short n sure h (commands.HelpOn kind) f = on_out (printed n _)
-command_short n sure h (commands.ChunkServer store host port writable workers) f = bound (on_disk (unheard n h store f)) (λ held. on_disk (served n (workers == 1) h writable store held))
+command_short n sure h (commands.ChunkServer store host port writable workers digest) f = bound (on_disk (unheard n h store f)) (λ held. on_disk (served n digest (workers == 1) h writable store held))
 
 -- ---- the words
 

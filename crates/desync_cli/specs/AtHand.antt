@@ -32,7 +32,7 @@ near cache stores = map locations.Folder (folder_of cache) ++ stores
 -- entry i is at hand: an alike one is right in the base, or a seed has its chunk, or a folder gives it
 abbrev pub IsAtHand : Map (List ℕ) → Map (Map (List ℕ)) → Into → Listing → Seeds → List Location → ℕ → Type 0
 IsAtHand b n out l x folders i = RightAlike l (base_of b out l) i
-    ⊎ (((s : ℕ) × SeedHas b x (id_of l i) (size_of l i) s) ⊎ Any (StoreGivesEntry n l i) folders)
+    ⊎ (((s : ℕ) × SeedHas (kind_of l) b x (id_of l i) (size_of l i) s) ⊎ Any (StoreGivesEntry n l i) folders)
 
 -- the index lists each id with one size
 abbrev pub ListsOneSize : Listing → Type 0

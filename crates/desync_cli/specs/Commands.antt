@@ -35,12 +35,12 @@ use Rattle.command_worlds.specs.Worlds.{OnOut, Step, World}
 
 -- whether it listens for connections
 abbrev pub listens : Command → Bool
-listens (commands.ChunkServer store host port writable workers) = true
+listens (commands.ChunkServer store host port writable workers digest) = true
 listens other = false
 
 -- how each ends, from the world before it to the world after it, where this was heard
 abbrev pub CommandEnds : Bool → Heard → Command → Step World Unit
-CommandEnds sure h (commands.Make store sizes workers index image) = MakeEnds store sizes index image
+CommandEnds sure h (commands.Make store sizes workers digest index image) = MakeEnds store digest sizes index image
 CommandEnds sure h (commands.VerifyIndex workers index image) = VerifyIndexEnds index image
 CommandEnds sure h (commands.Chop store workers index image) = ChopEnds store index image
 CommandEnds sure h (commands.Cache stores cache workers indexes) = CacheEnds stores cache workers indexes
@@ -48,17 +48,18 @@ CommandEnds sure h (commands.ListChunks index) = ListChunksEnds index
 CommandEnds sure h (commands.Extract stores seeds cache in_place workers index target) =
     ExtractEnds (never_fail sure h.never_fails) stores cache seeds in_place index target
 CommandEnds sure h (commands.Info stores index) = InfoEnds stores index
-CommandEnds sure h (commands.Verify store repair workers) = VerifyEnds store repair
+CommandEnds sure h (commands.Verify store repair workers digest) = VerifyEnds digest store repair
 CommandEnds sure h (commands.Prune store indexes) = PruneEnds store indexes
-CommandEnds sure h (commands.Demo number size workers) = DemoEnds number size
+CommandEnds sure h (commands.Demo number size workers digest) = DemoEnds digest number size
 CommandEnds sure h commands.Help = OnOut (Printed (help_text topics.All))
 CommandEnds sure h commands.Version = OnOut (Printed (help_text topics.Version))
 CommandEnds sure h (commands.HelpOn kind) = OnOut (Printed (help_text (topics.Command kind)))
-CommandEnds sure h (commands.ChunkServer store host port writable workers) = ChunkServerEnds h store writable workers
+CommandEnds sure h (commands.ChunkServer store host port writable workers digest) =
+    ChunkServerEnds digest h store writable workers
 
 -- what no outcome of it changes
 abbrev pub spares : Command → Spares
-spares (commands.Make store sizes workers index image) = record
+spares (commands.Make store sizes workers digest index image) = record
     { files = false; folders = not (is_folder store); dial = is_folder store; out = true }
 spares (commands.VerifyIndex workers index image) = record { files = true; folders = true; dial = true; out = true }
 spares (commands.Chop store workers index image) = record
@@ -68,15 +69,16 @@ spares (commands.Cache stores cache workers indexes) = record
 spares (commands.Extract stores seeds cache in_place workers index target) = record
     { files = false; folders = not (is_some cache); dial = are_folders stores; out = true }
 spares (commands.Info stores index) = record { files = true; folders = true; dial = are_folders stores; out = false }
-spares (commands.Verify store repair workers) = record { files = true; folders = false; dial = true; out = false }
+spares (commands.Verify store repair workers digest) = record
+    { files = true; folders = false; dial = true; out = false }
 spares (commands.Prune store indexes) = record { files = true; folders = false; dial = true; out = true }
-spares (commands.ChunkServer store host port writable workers) = record
+spares (commands.ChunkServer store host port writable workers digest) = record
     { files = true; folders = false; dial = true; out = true }
 spares other = record { files = true; folders = true; dial = true; out = false }
 
 -- whose files, folders and servers its faults are of, where the outcome doesn't name them
 abbrev pub parts : Heard → Command → Parts
-parts h (commands.Make store sizes workers index image) = record
+parts h (commands.Make store sizes workers digest index image) = record
     { image = image; stores = store ∷ []; target = []; cache = []; listener = unheard }
 parts h (commands.VerifyIndex workers index image) = record
     { image = image; stores = []; target = []; cache = []; listener = unheard }
@@ -93,19 +95,19 @@ parts h (commands.Extract stores seeds cache in_place workers index target) = re
 }
 parts h (commands.Info stores index) = record
     { image = []; stores = stores; target = []; cache = []; listener = unheard }
-parts h (commands.Verify store repair workers) = record
+parts h (commands.Verify store repair workers digest) = record
     { image = []; stores = locations.Folder store ∷ []; target = []; cache = []; listener = unheard }
 parts h (commands.Prune store indexes) = record
     { image = []; stores = locations.Folder store ∷ []; target = []; cache = []; listener = unheard }
-parts h (commands.ChunkServer store host port writable workers) = record
+parts h (commands.ChunkServer store host port writable workers digest) = record
     { image = []; stores = []; target = []; cache = []; listener = (h.old.faults, h.new.faults) }
 parts h other = record { image = []; stores = []; target = []; cache = []; listener = unheard }
 
 -- what Done says of it, beside how it ends
 abbrev pub Achieves : Bool → Heard → Command → World → World → Type 0
-Achieves sure h (commands.Make store sizes workers index image) w v =
+Achieves sure h (commands.Make store sizes workers digest index image) w v =
     IfSome w.disk.files (λ b. IfSome v.disk.files (λ a. (l : Listing)
-    × IsMade b a sizes index image l × StoreHas (storage_of w) (storage_of v) store l))
+    × IsMade b a digest sizes index image l × StoreHas (storage_of w) (storage_of v) store l))
 Achieves sure h (commands.VerifyIndex workers index image) w v = IfSome w.disk.files (λ m. IsVerified m index image)
 Achieves sure h (commands.Chop store workers index image) w v = IfSome w.disk.files (λ b. (l : Listing)
     × IsChopped b index image l × StoreHas (storage_of w) (storage_of v) store l)
@@ -114,9 +116,9 @@ Achieves sure h (commands.Cache stores cache workers indexes) w v =
     IsCached b f g cache indexes)))
 Achieves sure h (commands.Extract stores seeds cache in_place workers index target) w v =
     IfSome w.disk.files (λ b. IfSome v.disk.files (λ a. IsExtracted b a index target))
-Achieves sure h (commands.Verify store repair workers) w v =
+Achieves sure h (commands.Verify store repair workers digest) w v =
     IfSome w.disk.folders (λ f. IfSome v.disk.folders (λ g.
-    IsVerifiedStore f g w.out.taken v.out.taken store repair))
+    IsVerifiedStore digest f g w.out.taken v.out.taken store repair))
 Achieves sure h (commands.Prune store indexes) w v =
     IfSome w.disk.files (λ b. IfSome w.disk.folders (λ f. IfSome v.disk.folders (λ g.
     IsPruned b f g store indexes)))

@@ -5,7 +5,7 @@ use Rattle.std.specs.List.{All, Any, Contains}
 use Rattle.assembler.specs.Assemblies.{IsLeast}
 use Rattle.buzhash_cut.specs.Image.{HasTooManyCuts, IsIndexOfImage}
 use Rattle.buzhash_cut.specs.Sizes.{Sizes, size_fault}
-use Rattle.cache_store.specs.Giving.{GiveOneSize}
+use Rattle.cache_store.specs.Giving.{GiveOneSize, SomeGives}
 use Rattle.caibx_codec.specs.Listing.{Listing, count_of, id_of, image_length, kind_of, size_of}
 use Rattle.caibx_codec.specs.Right.{IsRight}
 use Rattle.caibx_codec.specs.Spelling.{file_of}
@@ -16,7 +16,7 @@ use Rattle.chunk_sources.specs.Losses.{chunk_of}
 use Rattle.chunk_store.specs.Folders.{chunks}
 use Rattle.chunk_store.specs.Giving.{IsChunk}
 use Rattle.chunk_store.specs.declared.id.ChunkId.{ChunkId}
-use Rattle.chunk_store.specs.declared.id.DigestKind.TheVariants as kinds
+use Rattle.chunk_store.specs.declared.id.DigestKind.{DigestKind}
 use Rattle.command_help.specs.Help.{help_text}
 use Rattle.command_help.specs.declared.help.Topic.TheVariants as topics
 use Rattle.command_outcome.specs.declared.outcome.Outcome.{Outcome}
@@ -41,6 +41,7 @@ use Rattle.extract_command.specs.Extract.{AreFilled, HadFrom, Seeds, base_of, fo
 use Rattle.image_check.specs.Checks.{IsFirstWrong}
 use Rattle.image_commands.specs.Make.{cut_sizes_of}
 use Rattle.image_demo.specs.Figures.{AreFigures, HasTwoPieces, text_of_figures}
+use Rattle.image_demo.specs.Images.{usual_sizes}
 use Rattle.image_demo.specs.declared.figures.Figures.{Figures}
 use Rattle.image_store.specs.PutChunks.{HoldsAll, PutsFiles, Stands}
 use Rattle.locked_shelf.specs.Keepings.{KeepsOpening}
@@ -97,11 +98,11 @@ sizes_at n next x o y = MatchOption (size_fault (cut_sizes_of n)) (next (cut_siz
     (λ fault. Unchanged (ends.Sizes fault) x o y)
 
 -- the image's chunks are in the store, and INDEX holds its index; or it has too many
-abbrev pub Makes : Sizes → List ℕ → List ℕ → List ℕ → Map (List ℕ) → Ending
-Makes s t index q f x ends.Done y = (HasTooManyCuts s t → ⊥) × (l : Listing) × IsIndexOfImage s t l
+abbrev pub Makes : DigestKind → Sizes → List ℕ → List ℕ → List ℕ → Map (List ℕ) → Ending
+Makes kind s t index q f x ends.Done y = (HasTooManyCuts s t → ⊥) × (l : Listing) × IsIndexOfImage kind s t l
     × (g : Map (List ℕ)) × (y ≡ with_file (with_folder x q g) index (file_of l)) × AreStored l t (count_of l) f g
-Makes s t index q f x ends.TooManyItems y = HasTooManyCuts s t × (y ≡ x)
-Makes s t index q f x other y = ⊥
+Makes kind s t index q f x ends.TooManyItems y = HasTooManyCuts s t × (y ≡ x)
+Makes kind s t index q f x other y = ⊥
 
 -- ---- chunks of an index
 
@@ -121,18 +122,24 @@ NamesLacking l P stores other = ⊥
 
 -- a folder's files f have become g: under each id stands what stood there, or its chunk, which is listed and which a
 -- store holds; and each file stays that is neither a chunk nor a temporary one
-pub record GainsListed (Listed : List ℕ → ℕ → Type 0) (stores : List (Map (List ℕ))) (f g : Map (List ℕ)) : Type 0 where
+pub record GainsListed (Listed : DigestKind → List ℕ → ℕ → Type 0) (stores : List (Map (List ℕ))) (f g : Map (List ℕ))
+    : Type 0 where
   pub held : (id : List ℕ) → (chunks g id ≡ chunks f id) ⊎ ((b : List ℕ) × (chunks g id ≡ Some b)
-      × ((n : ℕ) × Listed id n × IsChunk kinds.Sha512T256 id n b) × Any (λ m. m id ≡ Some b) stores)
+      × ((kind : DigestKind) × (n : ℕ) × Listed kind id n × IsChunk kind id n b) × Any (λ m. m id ≡ Some b) stores)
   pub strangers : (q : List ℕ) → IsTrue (is_stranger q) → g q ≡ f q
 
--- one of these files is an index that lists the id with this size
-pub record IsListedAmong (files : Map (List ℕ)) (indexes : List (List ℕ)) (id : List ℕ) (n : ℕ) : Type 0 where
+-- the index, which names its chunks by this kind of digest, lists the id with this size
+abbrev pub IsListedBy : Listing → DigestKind → List ℕ → ℕ → Type 0
+IsListedBy l kind id n = (kind_of l ≡ kind) × IsListedAs l id n
+
+-- one of these files is an index that does
+pub record IsListedAmong (files : Map (List ℕ)) (indexes : List (List ℕ)) (kind : DigestKind) (id : List ℕ) (n : ℕ)
+    : Type 0 where
   pub index : List ℕ
   pub named : Contains indexes index
   pub listing : Listing
   pub listed : IsListed files index listing
-  pub lists : IsListedAs listing id n
+  pub lists : IsListedBy listing kind id n
 
 -- the indexes in order: the cache, which held m, or a store gives each entry's chunk; or the first index that can't be
 -- read is named, or the first entry whose chunk isn't given. What is left isn't told
@@ -141,10 +148,17 @@ FillsInOrder m stores [] = Unchanged ends.Done
 FillsInOrder m stores (q ∷ indexes) = index_at q (λ l x o y. NamesLacking l (IsGivenBy l m stores) stores o
     ⊎ (((i : ℕ) → i < count_of l → IsGivenBy l m stores i) × FillsInOrder m stores indexes x o y))
 
--- the cache was filled by the indexes. Cache and stores give each id that these list with several sizes with one
+-- of each id that is listed with both kinds of digest, these stores together give chunks of one kind
+abbrev pub GiveOneKind : (DigestKind → List ℕ → ℕ → Type 0) → List (Map (List ℕ)) → Type 0
+GiveOneKind Listed maps = (id : List ℕ) (j k : DigestKind) (n m : ℕ) → Listed j id n → Listed k id m
+    → SomeGives j id n maps → SomeGives k id m maps → j ≡ k
+
+-- the cache was filled by the indexes. Cache and stores give each id that these list with several sizes, or with both
+-- kinds of digest, with one
 abbrev pub Caches : List (Map (List ℕ)) → List ℕ → List (List ℕ) → Map (List ℕ) → Ending
 Caches stores q indexes f x o y =
-    GiveOneSize (IsListedAmong x.files indexes) kinds.Sha512T256 (chunks f ∷ stores)
+    ((kind : DigestKind) → GiveOneSize (IsListedAmong x.files indexes kind) kind (chunks f ∷ stores))
+    → GiveOneKind (IsListedAmong x.files indexes) (chunks f ∷ stores)
     → FillsInOrder (chunks f) stores indexes x o x
     × (o ≡ ends.Done → IsCached x.files x.folders y.folders q indexes)
     × ((g : Map (List ℕ)) × (y ≡ with_folder x q g) × GainsListed (IsListedAmong x.files indexes) stores f g)
@@ -163,7 +177,7 @@ abbrev pub CacheGains : Option (List ℕ) → Listing → List (Map (List ℕ)) 
     → Type 0
 CacheGains None l stores before after = after ≡ before
 CacheGains (Some c) l stores before after = (f : Map (List ℕ)) × (before c ≡ Some f)
-    × (g : Map (List ℕ)) × (after ≡ at_name before c (Some g)) × GainsListed (IsListedAs l) stores f g
+    × (g : Map (List ℕ)) × (after ≡ at_name before c (Some g)) × GainsListed (IsListedBy l) stores f g
 
 -- what an assembly of OUT answers and leaves, where P says of each entry whether it can be had
 pub record IsAssembledAs (l : Listing) (P : ℕ → Type 0) (stores : List (Map (List ℕ))) (cache : Option (List ℕ))
@@ -186,41 +200,42 @@ Extracts l z fs cs cache in_place out x o y =
 -- ---- connections
 
 -- one came as t and ended as u: its requests were answered in order by the files f, which became g
-pub record IsRepliedTo (writable : Bool) (t : Traffic) (u : LinkState) (f g : Map (List ℕ)) : Type 0 where
-  pub asked : List Asked
-  pub left : Option (List ℕ)
-  pub requests : AreRequests writable (Some t.coming) asked left
-  pub over : IsOver writable left
-  pub ended : Traffic
-  pub told : u.traffic ≡ Some ended
-  pub sent : ended.sent ≡ replies (turns_of kinds.Sha512T256 f asked)
-  pub files : g ≡ files_left kinds.Sha512T256 f asked
+pub record IsRepliedTo (kind : DigestKind) (writable : Bool) (t : Traffic) (u : LinkState) (f g : Map (List ℕ)) : Type 0
+  where
+    pub asked : List Asked
+    pub left : Option (List ℕ)
+    pub requests : AreRequests writable (Some t.coming) asked left
+    pub over : IsOver writable left
+    pub ended : Traffic
+    pub told : u.traffic ≡ Some ended
+    pub sent : ended.sent ≡ replies (turns_of kind f asked)
+    pub files : g ≡ files_left kind f asked
 
 -- so did these, each answered by the files that the one before it left
-abbrev pub AreRepliedTo : Bool → List Traffic → List LinkState → Map (List ℕ) → Map (List ℕ) → Type 0
-AreRepliedTo writable [] [] f g = g ≡ f
-AreRepliedTo writable (t ∷ came) (u ∷ gone) f g =
-    (next : Map (List ℕ)) × IsRepliedTo writable t u f next × AreRepliedTo writable came gone next g
-AreRepliedTo writable came gone f g = ⊥
+abbrev pub AreRepliedTo : DigestKind → Bool → List Traffic → List LinkState → Map (List ℕ) → Map (List ℕ) → Type 0
+AreRepliedTo kind writable [] [] f g = g ≡ f
+AreRepliedTo kind writable (t ∷ came) (u ∷ gone) f g =
+    (next : Map (List ℕ)) × IsRepliedTo kind writable t u f next × AreRepliedTo kind writable came gone next g
+AreRepliedTo kind writable came gone f g = ⊥
 
 -- the files f became g. With one worker, over a listener that tells, connections on which no call failed were answered
 -- so; else each id holds what it held, or a right chunk
-abbrev pub IsServedTo : Bool → Heard → Bool → Map (List ℕ) → Option (Map (List ℕ)) → Type 0
-IsServedTo false h writable f g = KeepsOpening kinds.Sha512T256 f g
-IsServedTo true h writable f g = IfSome h.old.coming (λ came. IfSome h.old.ended (λ done. (gone : List LinkState)
+abbrev pub IsServedTo : DigestKind → Bool → Heard → Bool → Map (List ℕ) → Option (Map (List ℕ)) → Type 0
+IsServedTo kind false h writable f g = KeepsOpening kind f g
+IsServedTo kind true h writable f g = IfSome h.old.coming (λ came. IfSome h.old.ended (λ done. (gone : List LinkState)
     × (h.new.ended ≡ Some (done ++ gone)) × (All (λ u. u.faults ≡ 0) gone
-    → (now : Map (List ℕ)) × (g ≡ Some now) × AreRepliedTo writable came gone f now)))
+    → (now : Map (List ℕ)) × (g ≡ Some now) × AreRepliedTo kind writable came gone f now)))
 
 -- all connections that came were served
-abbrev pub Answers : Bool → Heard → Bool → List ℕ → Map (List ℕ) → Ending
-Answers in_turn h writable q f x o y = (o ≡ ends.Done) × (g : Option (Map (List ℕ)))
-    × (y ≡ record x { folders = at_name x.folders q g }) × IsServedTo in_turn h writable f g
+abbrev pub Answers : DigestKind → Bool → Heard → Bool → List ℕ → Map (List ℕ) → Ending
+Answers kind in_turn h writable q f x o y = (o ≡ ends.Done) × (g : Option (Map (List ℕ)))
+    × (y ≡ record x { folders = at_name x.folders q g }) × IsServedTo kind in_turn h writable f g
 
 -- ---- the commands
 
 -- damaged chunk files are printed, and with `repair` removed
-abbrev pub Verifies : List ℕ → Bool → Map (List ℕ) → Ending
-Verifies q repair f x o y = (damaged : List (List ℕ)) × AreDamaged kinds.Sha512T256 f damaged
+abbrev pub Verifies : DigestKind → List ℕ → Bool → Map (List ℕ) → Ending
+Verifies kind q repair f x o y = (damaged : List (List ℕ)) × AreDamaged kind f damaged
     × (answer_of o ≡ answer_of_left (damaged_left repair damaged))
     × (y ≡ record {
       files = x.files;
@@ -234,17 +249,18 @@ in_stores l [] = None
 in_stores l (m ∷ stores) = Some (held_count l (m ∷ stores))
 
 -- the figures of an image are printed; or two pieces of bytes have one digest, which is named
-abbrev pub Demonstrates : ℕ → ℕ → Ending
-Demonstrates number size x o y = ((f : Figures) × AreFigures number size f × PrintsText (text_of_figures f) x o y)
-    ⊎ ((k : ℕ) × (id : ChunkId) × HasTwoPieces id.0 × Unchanged (ends.Mismatch k id) x o y)
+abbrev pub Demonstrates : DigestKind → ℕ → ℕ → Ending
+Demonstrates kind number size x o y =
+    ((f : Figures) × AreFigures kind number size f × PrintsText (text_of_figures f) x o y)
+    ⊎ ((k : ℕ) × (id : ChunkId) × HasTwoPieces kind usual_sizes.greatest id.0 × Unchanged (ends.Mismatch k id) x o y)
 
 -- each command, where this was heard
 abbrev pub EndingOf : Heard → Command → Ending
-EndingOf h (commands.Make store sizes workers index image) = do
+EndingOf h (commands.Make store sizes workers digest index image) = do
   s ← sizes_at sizes
   t ← image_at image
   f ← folder_at (folder_name store)
-  Makes s t index (folder_name store) f
+  Makes digest s t index (folder_name store) f
 EndingOf h (commands.Chop store workers index image) = do
   l ← index_at index
   t ← image_at image
@@ -271,17 +287,17 @@ EndingOf h (commands.Info stores index) = do
   l ← index_at index
   fs ← folders_at stores
   PrintsText (text_of_info l (in_stores l (map chunks fs)))
-EndingOf h (commands.Verify store repair workers) = do
+EndingOf h (commands.Verify store repair workers digest) = do
   f ← folder_at store
-  Verifies store repair f
+  Verifies digest store repair f
 EndingOf h (commands.Prune store indexes) = do
   ls ← indexes_at 0 indexes
   f ← folder_at store
   λ x o y. (o ≡ ends.Done) × (y ≡ with_folder x store (pruned (is_listed_in ls) f))
-EndingOf h (commands.ChunkServer store host port writable workers) = do
+EndingOf h (commands.ChunkServer store host port writable workers digest) = do
   f ← folder_at store
-  Answers (workers == 1) h writable store f
-EndingOf h (commands.Demo number size workers) = Demonstrates number size
+  Answers digest (workers == 1) h writable store f
+EndingOf h (commands.Demo number size workers digest) = Demonstrates digest number size
 EndingOf h commands.Help = PrintsText (help_text topics.All)
 EndingOf h commands.Version = PrintsText (help_text topics.Version)
 EndingOf h (commands.HelpOn kind) = PrintsText (help_text (topics.Command kind))

@@ -43,7 +43,7 @@ use std::thread::Threads;
 use store_commands::info::print_info;
 use store_commands::prune::prune_folder;
 use store_commands::server::{Service, chunk_server};
-use store_commands::verify::verify;
+use store_commands::verify::{Verification, verify};
 use store_commands::verify_index::check_image;
 
 // Does the command.
@@ -76,6 +76,7 @@ where
             store,
             sizes,
             workers,
+            digest,
             index,
             image,
         } => make(
@@ -87,6 +88,7 @@ where
                 store,
                 sizes,
                 workers,
+                digest,
                 index,
                 image,
             },
@@ -162,23 +164,34 @@ where
             store,
             repair,
             workers,
-        } => verify(rt, alloc, files, out, store, repair, workers),
+            digest,
+        } => {
+            let how = Verification {
+                kind: digest,
+                repair,
+                workers,
+            };
+            verify(rt, alloc, files, out, store, how)
+        }
         Command::Prune { store, indexes } => prune_folder(alloc, files, store, indexes),
         Command::Demo {
             number,
             size,
             workers,
-        } => demo(rt, alloc, out, number, size, workers as usize),
+            digest,
+        } => demo(rt, alloc, out, number, size, workers as usize, digest),
         Command::ChunkServer {
             store,
             host,
             port,
             writable,
             workers,
+            digest,
         } => {
             let service = Service {
                 host,
                 port,
+                kind: digest,
                 writable,
                 workers,
             };

@@ -52,12 +52,12 @@ module _ (d b : Disk) (t : Task) (x : Seeds) (views : List (Option Held)) (zip :
 
   pub had_of : IsObtainable t base views maps i → CanBeHad t.listing base m x maps i
   had_of (inl right) = inl right
-  had_of (inr (inl seed)) = inr (inl (given_had d b m told x views zip (id_of t.listing i) (size_of t.listing i) chunk_places (is.places i listed) seed))
+  had_of (inr (inl seed)) = inr (inl (given_had d b m told x views zip (kind_of t.listing) (id_of t.listing i) (size_of t.listing i) chunk_places (is.places i listed) seed))
   had_of (inr (inr store)) = inr (inr store)
 
   pub obtainable_of : ((n : List ℕ) → FileRose d b n → ⊥) → CanBeHad t.listing base m x maps i → IsObtainable t base views maps i
   obtainable_of none (inl right) = inl right
-  obtainable_of none (inr (inl seed)) = inr (inl (had_given d b m told x views zip (id_of t.listing i) (size_of t.listing i) chunk_places (is.places i listed) none seed.0 seed.1))
+  obtainable_of none (inr (inl seed)) = inr (inl (had_given d b m told x views zip (kind_of t.listing) (id_of t.listing i) (size_of t.listing i) chunk_places (is.places i listed) none seed.0 seed.1))
   obtainable_of none (inr (inr store)) = inr (inr store)
 
 -- ---- the same over other facts
@@ -292,7 +292,7 @@ module _ (w v : Storage) (stores : List Location) (cache : Option (List ℕ)) (o
 
   -- a seed that has the chunk of entry k has failed, and the cache doesn't give it
   abbrev pub OthersLack : Map (List ℕ) → ℕ → ChunkId → Refused → Type 0
-  OthersLack b k id r = ((s : ℕ) (h : SeedHas b x (id_of l k) (size_of l k) s) → FileRose d e h.image) × CacheLacksEntry d e cache l k
+  OthersLack b k id r = ((s : ℕ) (h : SeedHas (kind_of l) b x (id_of l k) (size_of l k) s) → FileRose d e h.image) × CacheLacksEntry d e cache l k
 
   -- both
   abbrev pub AllLack : Map (List ℕ) → Map (Map (List ℕ)) → List ℕ → ℕ → ChunkId → Refused → Type 0

@@ -9,7 +9,6 @@ use Rattle.std.specs.Map.{count_at}
 use Rattle.chunk_sources.specs.declared.kit.Kit.{Kit}
 use Rattle.command_steps.proofs.Asking.{none_dialed}
 use Rattle.cache_store.specs.Shelves.{Shelf}
-use Rattle.chunk_store.specs.declared.id.DigestKind.TheVariants as kinds
 use Rattle.command_steps.proofs.Consulted.{consults_none, consults_twice, reads_none}
 use Rattle.command_steps.proofs.Dialed.{dials_none}
 use Rattle.command_steps.proofs.Given.{all_later}
@@ -188,7 +187,6 @@ module _ {L V D K : Type 0} (look : LookWords L) (view : ViewWords V) where
       located = is.located;
       fresh = is.fresh;
       unused = is.unused;
-      kind = is.kind;
       viewed = views_over d b c e r s images (map (seed_held view.held) k.seeds.items) is.viewed;
       unfailed = is.unfailed;
       given = give_later c e s.folder_known s.known k is.given;
@@ -205,7 +203,6 @@ module _ {L V D K : Type 0} (look : LookWords L) (view : ViewWords V) where
       located = is.located;
       fresh = is.fresh;
       unused = is.unused;
-      kind = is.kind;
       viewed = is.viewed;
       unfailed = is.unfailed;
       given = is.given;
@@ -213,11 +210,11 @@ module _ {L V D K : Type 0} (look : LookWords L) (view : ViewWords V) where
 
     -- the first kit's stores and seeds were opened, and then the others
     pub opened_kits : (o : Option Shelf) (d c b : Disk) → Reads d c → Reads c b → (images : List (List ℕ)) (xs : List (AnyStore L D K)) (seeds : List (Seed V)) (k : Kit (AnyStore L D K) V) (more : List (Kit (AnyStore L D K) V))
-        → k.chain.stores ≡ xs → k.seeds.items ≡ seeds → k.chain.kind ≡ kinds.Sha512T256
+        → k.chain.stores ≡ xs → k.seeds.items ≡ seeds
         → IfSome (with_cache o d).folders (λ m. map (source_files look.files) xs ≡ map (location_files m) (map (location_in look.place) xs)) → map (source_faults look.faults state) xs ≡ map (λ q. 0) (map (location_in look.place) xs) → All (IsUnused state) xs
         → All (IsKnown d.folder_counts) (map (location_in look.place) xs) → AllZip (IsViewed d c) images (map (seed_held view.held) seeds) → map (faults_in view.faults) seeds ≡ map {B = ℕ} (λ s. 0) seeds → SeedsKnown view.held c.file_counts seeds
         → IfSome o (λ s. IfSome d.folders (λ m. m s.place ≡ None)) → LooksTell look d.folders → AreOpened look view state c b (map (location_in look.place) xs) images more → AreOpened look view state (with_cache o d) b (map (location_in look.place) xs) images (k ∷ more)
-    opened_kits o d c b r s images xs seeds k more stores_are seeds_are kind found fresh unused known zip unfailed seeds_known gone tell are =
+    opened_kits o d c b r s images xs seeds k more stores_are seeds_are found fresh unused known zip unfailed seeds_known gone tell are =
         let names = map (location_in look.place) xs in
         let located : kit_stores look view k ≡ names = ap (map (location_in look.place)) stores_are in
         All-cons (IsKitOpened look view state (with_cache o d) b names images) k more
@@ -226,7 +223,6 @@ module _ {L V D K : Type 0} (look : LookWords L) (view : ViewWords V) where
           located = located;
           fresh = subst (λ (l : List (AnyStore L D K)). map (source_faults look.faults state) l ≡ map {B = ℕ} (λ q. 0) names) (sym stores_are) fresh;
           unused = subst (λ (l : List (AnyStore L D K)). All (IsUnused state) l) (sym stores_are) unused;
-          kind = kind;
           viewed = views_over d d c b (reads_none d) s images (map (seed_held view.held) k.seeds.items) (subst (λ (l : List (Seed V)). AllZip (IsViewed d c) images (map (seed_held view.held) l)) (sym seeds_are) zip);
           unfailed = subst (λ (l : List (Seed V)). map (faults_in view.faults) l ≡ map {B = ℕ} (λ s. 0) l) (sym seeds_are) unfailed;
           given = record {

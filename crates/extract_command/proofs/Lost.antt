@@ -171,7 +171,7 @@ module _ {S V : Type 0} (store : StoreWords S) (location : S → Location) (view
       (gone : (n : ℕ) → CacheLacks (kind_of l) (id_of l n) (size_of l n) a.cache b.cache → CacheLacksEntry d e cache l n) where
     pub others_at : (u : Lost) → IsLostHere u → OthersLack w v stores cache out l seeds files u.entry u.id u.refused
     others_at u h = (
-      had_failed d mid files told seeds views zip (id_of l u.entry) (size_of l u.entry) (places_at t.places (want_at t.plan u.entry)) (is.places u.entry h.listed) e later old_counts new_counts rises
+      had_failed d mid files told seeds views zip (kind_of l) (id_of l u.entry) (size_of l u.entry) (places_at t.places (want_at t.plan u.entry)) (is.places u.entry h.listed) e later old_counts new_counts rises
           (subst (λ (id : List ℕ). SeedsFailed views (places_at t.places (want_at t.plan u.entry)) id old_counts new_counts) h.id_is h.seeds),
       gone u.entry h.cache,
     )

@@ -99,20 +99,20 @@ slice_by_size l t i p start size =
     ap (λ (n : ℕ). take n (drop p.start t)) many ∙ ap (λ (n : ℕ). take (end_of l i - start_of l i) (drop n t)) start
 
 module _ (d b : Disk) (m : Map (List ℕ)) (told : d.files ≡ Some m) (x : Seeds) (views : List (Option Held)) (zip : AllZip (IsViewed d b) x.images views)
-    (id : List ℕ) (n : ℕ) (ps : List SeedPlace) (are : ArePlaces kinds.Sha512T256 x.listings id n ps) where
+    (kind : DigestKind) (id : List ℕ) (n : ℕ) (ps : List SeedPlace) (are : ArePlaces kind x.listings id n ps) where
   there : (q : List ℕ) (o : Option (List ℕ)) → Holds d q o → (t : List ℕ) × (m q ≡ Some t) × (o ≡ Some t)
   there q o holds = subst (λ f. IfSome f (λ m. (t : List ℕ) × (m q ≡ Some t) × (o ≡ Some t))) told holds
 
   -- one of the seeds that gives the id has it
-  pub given_had : SeedsGive views ps id → (s : ℕ) × SeedHas m x id n s
+  pub given_had : SeedsGive views ps id → (s : ℕ) × SeedHas kind m x id n s
   given_had (k, p, lt, at, gives) = (p.seed, go (slice_index_or views p.seed None) refl gives) where
     nth : nth_place ps k ≡ p
     nth = get_or_default ps k (place kinds.Sha512T256 0 0 0) p lt ∙ at
 
-    is_place : IsPlace kinds.Sha512T256 x.listings id n p
-    is_place = subst (λ (r : SeedPlace). IsPlace kinds.Sha512T256 x.listings id n r) nth (are.sound k lt)
+    is_place : IsPlace kind x.listings id n p
+    is_place = subst (λ (r : SeedPlace). IsPlace kind x.listings id n r) nth (are.sound k lt)
 
-    go : (o : Option Held) → slice_index_or views p.seed None ≡ o → GivesAt o p id → SeedHas m x id n p.seed
+    go : (o : Option Held) → slice_index_or views p.seed None ≡ o → GivesAt o p id → SeedHas kind m x id n p.seed
     go None is_none h = absurd h
     go (Some h) is_some gives =
         let is = is_place in
@@ -120,7 +120,7 @@ module _ (d b : Disk) (m : Map (List ℕ)) (told : d.files ≡ Some m) (x : Seed
         let holds = there seed.0 h.bytes seed.2.0 in
         let t = holds.0 in
         let named : name_of p.kind (bytes_at p t) ≡ id = subst (λ o. IsSomeAnd o (λ u. name_of p.kind (bytes_at p u) ≡ id)) holds.2 gives.1 in
-        let wanted : name_of kinds.Sha512T256 (bytes_at p t) ≡ id = subst (λ (k : DigestKind). name_of k (bytes_at p t) ≡ id) is.kind_is named in
+        let wanted : name_of kind (bytes_at p t) ≡ id = subst (λ (k : DigestKind). name_of k (bytes_at p t) ≡ id) is.kind_is named in
         let long : length t ≡ h.size = subst (λ o. IfSome o (λ u. length u ≡ h.size)) holds.2 seed.2.2 in
         let size : p.size ≡ size_of is.listing is.entry = is.size ∙ sym is.size_is in
         record {
@@ -135,14 +135,14 @@ module _ (d b : Disk) (m : Map (List ℕ)) (told : d.files ≡ Some m) (x : Seed
           id_is = is.id_is;
           size_is = is.size_is;
           fits = omega (arith, gives.0, long, is.start, is.size);
-          right = ap (λ (u : List ℕ). name_of kinds.Sha512T256 u) (sym (slice_by_size is.listing t is.entry p is.start size)) ∙ wanted ∙ sym is.id_is;
+          right = ap (λ (u : List ℕ). name_of kind u) (sym (slice_by_size is.listing t is.entry p is.start size)) ∙ wanted ∙ sym is.id_is;
         }
 
   -- a seed that has it was opened, or opening it failed
-  pub had_at : (s : ℕ) (h : SeedHas m x id n s) → FileRose d b h.image
+  pub had_at : (s : ℕ) (h : SeedHas kind m x id n s) → FileRose d b h.image
       ⊎ ((k : ℕ) × (k < length ps) × ((nth_place ps k).seed ≡ s) × HeldAt views (nth_place ps k) id × (v : Held) × (slice_index_or views s None ≡ Some v) × (v.name ≡ h.image))
   had_at s h = go (slice_index_or views s None) refl (viewed_at d b x.images views s h.image zip h.named) where
-    listed : (k : ℕ) × (k < length ps) × (nth_place ps k ≡ place kinds.Sha512T256 s (start_of h.listing h.entry) n)
+    listed : (k : ℕ) × (k < length ps) × (nth_place ps k ≡ place kind s (start_of h.listing h.entry) n)
     listed = are.complete s h.entry h.listing h.listed h.inside h.id_is h.size_is
 
     go : (o : Option Held) → slice_index_or views s None ≡ o → IsViewed d b h.image o → FileRose d b h.image
@@ -154,20 +154,20 @@ module _ (d b : Disk) (m : Map (List ℕ)) (told : d.files ≡ Some m) (x : Seed
     go None is (inr rose) = inl rose
     go (Some v) is viewed =
         let k = listed.0 in
-        let p = place kinds.Sha512T256 s (start_of h.listing h.entry) n in
+        let p = place kind s (start_of h.listing h.entry) n in
         let at : nth_place ps k ≡ p = listed.2 in
         let holds = there h.image v.bytes viewed.0 in
         let same : Some holds.0 ≡ Some h.bytes = sym holds.1 ∙ h.there in
         let bytes : v.bytes ≡ Some h.bytes = holds.2 ∙ same in
         let long : length h.bytes ≡ v.size = subst (λ o. IfSome o (λ u. length u ≡ v.size)) bytes viewed.2 in
-        let right : name_of kinds.Sha512T256 (bytes_at p h.bytes) ≡ id = ap (λ (u : List ℕ). name_of kinds.Sha512T256 u) (slice_by_size h.listing h.bytes h.entry p refl (sym h.size_is)) ∙ h.right ∙ h.id_is in
+        let right : name_of kind (bytes_at p h.bytes) ≡ id = ap (λ (u : List ℕ). name_of kind u) (slice_by_size h.listing h.bytes h.entry p refl (sym h.size_is)) ∙ h.right ∙ h.id_is in
         let inside : p.start + p.size ≤ v.size = omega (arith, h.fits, long) in
         let gives : GivesAt (Some v) p id = (inside, subst (λ o. IsSomeAnd o (λ u. name_of p.kind (bytes_at p u) ≡ id)) (sym bytes) right) in
         let held : HeldAt views p id = subst (λ o. GivesAt o p id) (sym is) gives in
         inr (k, listed.1, ap (λ (r : SeedPlace). r.seed) at, subst (λ (r : SeedPlace). HeldAt views r id) (sym at) held, v, is, viewed.1)
 
   -- where opening it didn't fail, it gives the id
-  pub had_given : ((q : List ℕ) → FileRose d b q → ⊥) → (s : ℕ) → SeedHas m x id n s → SeedsGive views ps id
+  pub had_given : ((q : List ℕ) → FileRose d b q → ⊥) → (s : ℕ) → SeedHas kind m x id n s → SeedsGive views ps id
   had_given none s h = elim (had_at s h) [
     | inl rose ↦ absurd (none h.image rose)
     | inr h ↦ (h.0, nth_place ps h.0, h.1, get_or_default ps h.0 (nth_place ps h.0) (place kinds.Sha512T256 0 0 0) h.1, h.3)
@@ -175,7 +175,7 @@ module _ (d b : Disk) (m : Map (List ℕ)) (told : d.files ≡ Some m) (x : Seed
 
   -- where it didn't give it, it has failed
   pub had_failed : (e : Disk) → ((q : List ℕ) → FileRose d b q → FileRose d e q) → (old new : List ℕ) → ((k : ℕ) → Rose (slice_index old k) (slice_index new k) → FileRose d e (name_at (map label_of views) k))
-      → SeedsFailed views ps id old new → (s : ℕ) (h : SeedHas m x id n s) → FileRose d e h.image
+      → SeedsFailed views ps id old new → (s : ℕ) (h : SeedHas kind m x id n s) → FileRose d e h.image
   had_failed e later old new rises failed s h = elim (had_at s h) [
     | inl rose ↦ later h.image rose
     | inr u ↦

@@ -60,7 +60,7 @@ module _ {S V : Type 0} (store : StoreWords S) (view : ViewWords V) (t : Task) (
   quiet_file q quiet rise = rose_not_quiet (count_at d.file_counts q) (count_at d.file_counts q) (count_at e.file_counts q) (omega arith) rise quiet
 
   -- the seed that has it gives it, and didn't fail
-  seed_at : (w s : ℕ) (h : SeedHas m z (want_id l p w) (size_of l (first_of p w)) s) → FileQuiet d e h.image → w < p.wants
+  seed_at : (w s : ℕ) (h : SeedHas (kind_of l) m z (want_id l p w) (size_of l (first_of p w)) s) → FileQuiet d e h.image → w < p.wants
       → Any (λ q. HeldAt views q (want_id l p w) × Quiet (slice_index (counts_of view from.seeds) q.seed) (slice_index (counts_of view to.seeds) q.seed)) (places_at t.places w)
   seed_at w s h quiet below =
       let i = first_of p w in
@@ -68,7 +68,7 @@ module _ {S V : Type 0} (store : StoreWords S) (view : ViewWords V) (t : Task) (
       let inside = listed_of l p w i plan.wants among in
       let at : slice_index p.want_of i ≡ w = (among_of p w i among).1 in
       let are : ArePlaces (kind_of l) z.listings (want_id l p w) (size_of l i) (places_at t.places w) = subst (λ n. ArePlaces (kind_of l) z.listings (want_id l p w) (size_of l i) (places_at t.places n)) at (is.places i inside) in
-      elim (had_at d b m told z views zip (want_id l p w) (size_of l i) (places_at t.places w) are s h) [
+      elim (had_at d b m told z views zip (kind_of l) (want_id l p w) (size_of l i) (places_at t.places w) are s h) [
         | inl rise ↦ absurd (quiet_file h.image quiet (later h.image rise))
         | inr u ↦
             let here = nth_place (places_at t.places w) u.0 in

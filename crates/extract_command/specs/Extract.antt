@@ -20,7 +20,9 @@ use Rattle.chunk_sources.specs.Losses.{chunk_of}
 use Rattle.chunk_sources.specs.Wants.{IsAmong}
 use Rattle.chunk_store.specs.Folders.{chunks}
 use Rattle.chunk_store.specs.Giving.{GivesChunk, IsChunk}
+use Rattle.chunk_store.specs.Names.{name_of}
 use Rattle.chunk_store.specs.declared.id.ChunkId.{ChunkId}
+use Rattle.chunk_store.specs.declared.id.DigestKind.{DigestKind}
 use Rattle.command_outcome.specs.declared.outcome.Outcome.{Outcome}
 use Rattle.command_outcome.specs.declared.outcome.Outcome.TheVariants as ends
 use Rattle.command_words.specs.declared.command.Location.{Location}
@@ -71,9 +73,9 @@ pub record Seeds : Type 0 where
   pub images : List (List ℕ)
   pub listings : List Listing
 
--- the image of seed s is one of these files. An entry of the seed's index with this id and size lies inside it, and is
--- right in it
-pub record SeedHas (files : Map (List ℕ)) (x : Seeds) (id : List ℕ) (size s : ℕ) : Type 0 where
+-- the image of seed s is one of these files. An entry of the seed's index with this id and size lies inside it, and its
+-- range has the id by this kind of digest, whatever the kind of the seed's index is
+pub record SeedHas (kind : DigestKind) (files : Map (List ℕ)) (x : Seeds) (id : List ℕ) (size s : ℕ) : Type 0 where
   pub image : List ℕ
   pub named : slice_get x.images s ≡ Some image
   pub listing : Listing
@@ -85,12 +87,13 @@ pub record SeedHas (files : Map (List ℕ)) (x : Seeds) (id : List ℕ) (size s 
   pub id_is : id_of listing entry ≡ id
   pub size_is : size_of listing entry ≡ size
   pub fits : start_of listing entry + size ≤ length bytes
-  pub right : IsRightAt bytes listing entry
+  pub right : name_of kind (slice_of listing bytes entry) ≡ id_of listing entry
 
 -- entry i can be had: an alike one is right in the base, or a seed has its chunk in one of these files, or the cache or
 -- a store gives it, which hold these maps
 abbrev pub CanBeHad : Listing → List ℕ → Map (List ℕ) → Seeds → List (Map (List ℕ)) → ℕ → Type 0
-CanBeHad l base files x maps i = RightAlike l base i ⊎ (((s : ℕ) × SeedHas files x (id_of l i) (size_of l i) s)
+CanBeHad l base files x maps i = RightAlike l base i
+    ⊎ (((s : ℕ) × SeedHas (kind_of l) files x (id_of l i) (size_of l i) s)
     ⊎ SomeGives (kind_of l) (id_of l i) (size_of l i) maps)
 
 -- so it is where the base and the images of seeds are of these files, and the folders of the cache and of the stores
@@ -159,7 +162,7 @@ pub record IsLacking (w v : Storage) (before : Map (List ℕ)) (n : Map (Map (Li
   pub said : HaveLacked (chunk_of (kind_of l) id (size_of l k)) w v stores r
   pub lacks : WhereFolders n stores (λ fs. LacksAll (chunk_of (kind_of l) id (size_of l k)) (map chunks fs) r)
   pub copies : RightAlike l (base_of before out l) k → FileRose w.disk v.disk out.name
-  pub seeds : (s : ℕ) (h : SeedHas before x (id_of l k) (size_of l k) s) → FileRose w.disk v.disk h.image
+  pub seeds : (s : ℕ) (h : SeedHas (kind_of l) before x (id_of l k) (size_of l k) s) → FileRose w.disk v.disk h.image
   pub uncached : CacheLacksEntry w.disk v.disk cache l k
 
 -- the name of the cache's folder, where there is a cache
@@ -312,7 +315,8 @@ abbrev pub IsSparedOnDisk : NeverFail → ℕ → Disk → Disk → Map (List �
 IsSparedOnDisk sure workers d e before cache out l x p w =
     (((j : ℕ) × IsAmong (of_want p w) j × IsRightAt (base_of before out l) l j) × FileQuiet d e out.name
     × AllKnow workers sure.out)
-    ⊎ (((s : ℕ) × (h : SeedHas before x (want_id l p w) (size_of l (first_of p w)) s) × FileQuiet d e h.image)
+    ⊎ (((s : ℕ) × (h : SeedHas (kind_of l) before x (want_id l p w) (size_of l (first_of p w)) s)
+    × FileQuiet d e h.image)
     ⊎ (IsSomeAnd cache (λ c. CacheSpares d e c l (want_id l p w) (size_of l (first_of p w)))
     × AllKnow workers sure.cache))
 

@@ -6,7 +6,7 @@ use Rattle.std.specs.Map.{count_at}
 use Rattle.std.specs.Option.{option_map}
 use Rattle.chunk_sources.specs.Caches.{seen}
 use Rattle.chunk_sources.specs.declared.kit.Kit.{Kit}
-use Rattle.chunk_store.specs.declared.id.DigestKind.TheVariants as kinds
+use Rattle.chunk_store.specs.declared.id.DigestKind.{DigestKind}
 use Rattle.command_steps.specs.AnyStores.{IsGiven, IsKnown, IsUnused, source_faults, source_files, location_in}
 use Rattle.command_steps.specs.AnyStores.{with_those}
 use Rattle.command_steps.specs.Cache.{CacheGiven, CacheOpened, with_cache}
@@ -59,14 +59,14 @@ pub record HasNames {L W V D K : Type 0} (look : LookWords L) (view : ViewWords 
   pub seeds : AreNamesOf images (names_among (map (seed_held view.held) h.seeds.items))
   pub kits : All (UsesNames look view images (folders_among (stores_of look h))) (further_kits h)
 
--- it was just reached: nothing was asked and nothing failed yet, the cache's folder is taken, no seed and no kit is
--- open, and there is room for this number of kits
+-- it was just reached: nothing was asked and nothing failed yet, the cache's folder is taken, whose chunks are named by
+-- this kind of digest, no seed and no kit is open, and there is room for this number of kits
 pub record JustReached {L W V D K : Type 0} (look : LookWords L) (folder : LookWords W) (view : ViewWords V)
-    (state : D → DialState) (d : Disk) (workers : ℕ) (h : Held L W V D K) : Type 0 where
+    (state : D → DialState) (d : Disk) (workers : ℕ) (kind : DigestKind) (h : Held L W V D K) : Type 0 where
   pub lent : CanBeGiven look folder view d h
   pub unused : All (IsUnused state) h.stores.items
   pub fresh : map (source_faults look.faults state) h.stores.items ≡ map (λ q. 0) (stores_of look h)
-  pub shelf : IfSome h.shelf (λ s. (folder.faults s.folder ≡ 0) × (s.kind ≡ kinds.Sha512T256))
+  pub shelf : IfSome h.shelf (λ s. (folder.faults s.folder ≡ 0) × (s.kind ≡ kind))
   pub found : IfSome (disk_with folder h d).folders (λ m.
       map (source_files look.files) h.stores.items ≡ map (location_files m) (stores_of look h))
   pub gone : IfSome h.cache (λ q. IfSome d.folders (λ m. m q ≡ None))

@@ -3,7 +3,6 @@ use Rattle.std.specs.Prelude.{◌≡◌, ℕ, ◌≤◌, List, ◌∷◌, All, I
 use Rattle.std.specs.List.{AllZip, fold}
 use Rattle.std.specs.Map.{count_at}
 use Rattle.chunk_sources.specs.declared.kit.Kit.{Kit}
-use Rattle.chunk_store.specs.declared.id.DigestKind.TheVariants as kinds
 use Rattle.command_steps.specs.AnyStores.{IsGiven, IsKnown, IsUnused, location_in, source_faults, source_files}
 use Rattle.command_steps.specs.AnyStores.{with_those}
 use Rattle.command_steps.specs.Seeds.{IsViewed, SeedsKnown, label_in}
@@ -54,7 +53,6 @@ module _ {L V D K : Type 0} (look : LookWords L) (view : ViewWords V) where
       pub located : kit_stores k ≡ stores
       pub fresh : map (source_faults look.faults state) k.chain.stores ≡ map (λ q. 0) stores
       pub unused : All (IsUnused state) k.chain.stores
-      pub kind : k.chain.kind ≡ kinds.Sha512T256
       pub viewed : AllZip (IsViewed d e) images (map (seed_held view.held) k.seeds.items)
       pub unfailed : map (faults_in view.faults) k.seeds.items ≡ map (λ s. 0) k.seeds.items
       pub given : CanGiveKit e k

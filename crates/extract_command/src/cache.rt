@@ -3,11 +3,11 @@
 ghost use Rattle.std.specs.Prelude.{◌≡◌, [], Ok, Err, None, IfSome, IfOk, IfErr, OnOk, IsSome};
 ghost use Rattle.std.specs.Option.{option_map};
 ghost use Rattle.cache_store.specs.Shelves.{shelf_of};
-ghost use Rattle.chunk_store.specs.declared.id.DigestKind.TheVariants as kinds;
 ghost use Rattle.command_steps.specs.Cache.{CacheGiven, CacheOpened, with_cache};
 ghost use Rattle.dsy_base.specs.Maps.{at_name};
 
 use cache_store::shelf::CacheShelf;
+use chunk_store::id::DigestKind;
 use command_outcome::outcome::Outcome;
 use command_steps::cache::{give_shelf, take_shelf};
 use dsy_base::files::Files;
@@ -16,16 +16,17 @@ use dsy_base::look::Look;
 use dsy_base::name::Name;
 use std::alloc::Global;
 
-/// Takes the folder of a cache, where there is one.
+/// Takes the folder of a cache, where there is one. Its chunks are named by this digest.
 pub(crate) fn take_cache<F: Files>(
     alloc: Global,
     files: &mut F,
+    kind: DigestKind,
     cache: &Option<Name>,
 ) -> Result<Option<CacheShelf<F::Folder>>, Outcome>
     ensures ok { IfOk result (λ o. CacheOpened [] cache.now (F.disk files.old) (Ok tt) (with_cache
         (option_map (shelf_of F.Folder.files F.Folder.place F.Folder.faults) o) (F.disk files.new))) }
     ensures named { IfOk result (λ o. option_map (λ s. F.Folder.place s.folder) o ≡ cache.now) }
-    ensures fresh { IfOk result (λ o. IfSome o (λ s. (F.Folder.faults s.folder ≡ 0) × (s.kind ≡ kinds.Sha512T256))) }
+    ensures fresh { IfOk result (λ o. IfSome o (λ s. (F.Folder.faults s.folder ≡ 0) × (s.kind ≡ kind))) }
     ensures known { OnOk result (IfSome cache.now (λ q. IsSome ((F.disk files.new).folder_counts q))) }
     ensures gone { OnOk result (IfSome cache.now (λ q. (F.disk files.new).folders
         ≡ option_map (λ m. at_name m q None) (F.disk files.old).folders)) }
@@ -34,7 +35,7 @@ pub(crate) fn take_cache<F: Files>(
     let Some(name) = cache else {
         return Ok(None);
     };
-    let shelf = take_shelf(alloc, files, name.as_str())?;
+    let shelf = take_shelf(alloc, files, kind, name.as_str())?;
     Ok(Some(shelf))
 }
 

@@ -3,7 +3,7 @@
 
 ghost use Rattle.std.specs.Prelude.{◌≡◌, ◌≢◌, ℕ, List, ◌∷◌, ◌<◌, ◌≤◌, ◌^◌, map, IfOk, IsSome, length, is_some};
 ghost use Rattle.std.specs.Prelude.{string_bytes, true, false};
-ghost use Rattle.caibx_codec.specs.Listing.{Listing};
+ghost use Rattle.caibx_codec.specs.Listing.{Listing, kind_of};
 ghost use Rattle.command_steps.specs.Seeds.{image_name};
 ghost use Rattle.command_steps.specs.Sources.{DialsStores, storage};
 ghost use Rattle.command_steps.specs.Uses.{Uses};
@@ -168,7 +168,7 @@ where
     requires located { stores_of F.Look.Look held ≡ planned.now.stores }
     requires workers { (1 ≤ planned.now.workers) × (planned.now.workers ≤ 32) }
     requires held { JustReached F.Look.Look F.Folder.Look F.View.View D.state (F.disk files.old) planned.now.workers
-        held }
+        (kind_of planned.now.index) held }
     ensures assembled { (d : Deal) (ls : List Listing) → IsPlan planned.now.index 1 d →
         IsSeedIndex planned.now.index d ls planned.now.places →
         Assembled (storage (disk_with F.Folder.Look held (F.disk files.old)) (D.state dial.old))
@@ -200,8 +200,9 @@ where
     held.seeds = seeds;
     let stores = planned.stores.as_slice();
     let workers = workers_with_room(alloc, &planned.index, planned.workers);
+    let kind = planned.index.kind();
     let kits = &mut held.kits;
-    open_kits(alloc, files, dial, stores, names, workers, kits);
+    open_kits(files, dial, kind, stores, names, workers, kits);
     let taken = match files.take(target, fresh) {
         Ok(taken) => taken,
         Err(fault) => {
@@ -209,7 +210,7 @@ where
             return not_taken(fault);
         }
     };
-    let (kits, cache, shelf) = into_kits(alloc, held);
+    let (kits, cache, shelf) = into_kits(alloc, kind, held);
     let index = &planned.index;
     let ended = assemble(rt, alloc, index, &planned.places, taken, kits, shelf);
     let held = of_kits(ended.kits, cache, ended.cache);
@@ -284,7 +285,7 @@ where
     requires located { stores_of F.Look.Look held ≡ planned.now.stores }
     requires workers { (1 ≤ planned.now.workers) × (planned.now.workers ≤ 32) }
     requires held { JustReached F.Look.Look F.Folder.Look F.View.View D.state (F.disk files.old) planned.now.workers
-        held }
+        (kind_of planned.now.index) held }
     requires named { temporary.now ≡ temporary_out target }
     ensures made { (d : Deal) (ls : List Listing) (p : Output) → IsPlan planned.now.index 1 d →
         IsSeedIndex planned.now.index d ls planned.now.places → OutMade
@@ -344,7 +345,8 @@ where
         return Err(Outcome::Memory);
     };
     let stores = planned.stores.as_slice();
-    let held = match reach(alloc, files, dial, stores, cache, workers) {
+    let kind = planned.index.kind();
+    let held = match reach(alloc, files, dial, kind, stores, cache, workers) {
         Ok(held) => held,
         Err(outcome) => return Err(outcome),
     };

@@ -2,7 +2,6 @@
 //! the kits of its further workers.
 
 ghost use Rattle.std.specs.Prelude.{◌≡◌, ℕ, List, ◌<◌, ◌≤◌, IfErr, IfOk, Ok, Err, length, vec_capacity, vec_len};
-ghost use Rattle.chunk_store.specs.declared.id.DigestKind.TheVariants as kinds;
 ghost use Rattle.command_steps.specs.Sources.{storage};
 ghost use Rattle.command_steps.specs.Uses.{Uses};
 ghost use Rattle.command_worlds.specs.Worlds.{Reads};
@@ -15,6 +14,7 @@ use crate::cache::{give_cache, take_cache};
 use crate::kits::{close_kits, drop_kits};
 use cache_store::shelf::CacheShelf;
 use chunk_sources::kit::Kit;
+use chunk_store::id::DigestKind;
 use command_outcome::outcome::Outcome;
 use command_steps::any_store::AnyStore;
 use command_steps::seeds::close_seeds;
@@ -41,12 +41,13 @@ pub struct Held<L: Look, W: Folder, V: View, D: Dial> {
     pub kits: Vec<Kit<AnyStore<L, D>, V>>,
 }
 
-/// Opens the stores in their order, and takes the folder of the cache, where there is one. No seed is open yet, and no
-/// kit. There is room for `workers` kits.
+/// Opens the stores in their order, and takes the folder of the cache, where there is one, whose chunks are named by
+/// this digest. No seed is open yet, and no kit. There is room for `workers` kits.
 pub fn reach<F: Files, D: Dial>(
     alloc: Global,
     files: &mut F,
     dial: &D,
+    kind: DigestKind,
     stores: &[Location],
     cache: Option<Name>,
     workers: usize,
@@ -56,7 +57,7 @@ pub fn reach<F: Files, D: Dial>(
     ensures located { IfOk result (λ h. stores_of F.Look.Look h ≡ stores.now) }
     ensures named { IfOk result (λ h. h.cache ≡ cache) }
     ensures fresh { IfOk result (JustReached F.Look.Look F.Folder.Look F.View.View D.state (F.disk files.new)
-        workers) }
+        workers kind) }
     ensures err { IfErr result (λ o. AllReached stores.now cache (F.disk files.old) (Err o) (F.disk files.new)) }
 {
     let Ok(kits) = Vec::with_capacity(alloc, workers) else {
@@ -66,7 +67,7 @@ pub fn reach<F: Files, D: Dial>(
         Ok(stores) => stores,
         Err(outcome) => return Err(outcome),
     };
-    match take_cache(alloc, files, &cache) {
+    match take_cache(alloc, files, kind, &cache) {
         Ok(shelf) => Ok(Held {
             stores,
             cache,
@@ -81,9 +82,11 @@ pub fn reach<F: Files, D: Dial>(
     }
 }
 
-/// The kits of all workers, the first one's first, and the shelf of the cache with its name.
+/// The kits of all workers, the first one's first, whose chunks are named by this digest, and the shelf of the cache
+/// with its name.
 pub fn into_kits<L: Look, W: Folder, V: View, D: Dial>(
     alloc: Global,
+    kind: DigestKind,
     held: Held<L, W, V, D>,
 ) -> (
     Vec<Kit<AnyStore<L, D>, V>>,
@@ -93,7 +96,7 @@ pub fn into_kits<L: Look, W: Folder, V: View, D: Dial>(
     requires size { (1 ≤ length held.stores.items) × (length held.stores.items ≤ 16) }
     requires room { vec_len held.kits < vec_capacity held.kits }
     ensures kits { (f : StandsFirst held.stores.items held.seeds.items result.0.items held.kits.items)
-        × (f.kit.chain.kind ≡ kinds.Sha512T256) }
+        × (f.kit.chain.kind ≡ kind) }
     ensures cache { result.1 ≡ held.cache }
     ensures shelf { result.2 ≡ held.shelf }
 {
@@ -104,7 +107,7 @@ pub fn into_kits<L: Look, W: Folder, V: View, D: Dial>(
         seeds,
         mut kits,
     } = held;
-    let kit = Kit::new(alloc, Chain::new(stores), seeds);
+    let kit = Kit::new(alloc, Chain::with_kind(kind, stores), seeds);
     kits.insert(0, kit).unwrap();
     (kits, cache, shelf)
 }

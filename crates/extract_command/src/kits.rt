@@ -9,6 +9,7 @@ ghost use Rattle.extract_command.specs.Kits.{AreGivenBack, AreOpened, CanGiveKit
 ghost use Rattle.extract_command.specs.Kits.{kit_names, kit_stores};
 
 use chunk_sources::kit::Kit;
+use chunk_store::id::DigestKind;
 use command_steps::any_store::AnyStore;
 use command_steps::seeds::{close_seeds, open_seeds};
 use command_steps::sources::{close_sources, drop_sources, open_sources};
@@ -19,17 +20,19 @@ use dsy_base::name::Name;
 use std::alloc::Global;
 use store_chain::chain::Chain;
 
-// Opens the stores and the seeds of one kit, or lets go of what was opened.
+// Opens the stores and the seeds of one kit, whose chunks are named by this digest, or lets go of what was opened.
 fn open_kit<F: Files, D: Dial>(
     alloc: Global,
     files: &mut F,
     dial: &D,
+    kind: DigestKind,
     stores: &[Location],
     seeds: &[Name],
 ) -> Option<Kit<AnyStore<F::Look, D>, F::View>>
     requires size { (1 ≤ length stores.now) × (length stores.now ≤ 16) }
     ensures some { IfSome result (IsKitOpened F.Look.Look F.View.View D.state (F.disk files.old) (F.disk files.new)
         stores.now (map image_name seeds.now)) }
+    ensures kind { IfSome result (λ k. k.chain.kind ≡ kind) }
     ensures kept { Reads (F.disk files.old) (F.disk files.new) }
     ensures used { Uses (map image_name seeds.now) (folders_among stores.now) (F.disk files.old) (F.disk files.new) }
 {
@@ -37,7 +40,7 @@ fn open_kit<F: Files, D: Dial>(
         return None;
     };
     match open_seeds(alloc, files, seeds) {
-        Ok(seeds) => Some(Kit::new(alloc, Chain::new(stores), seeds)),
+        Ok(seeds) => Some(Kit::new(alloc, Chain::with_kind(kind, stores), seeds)),
         Err(_) => {
             drop_sources(files, stores);
             None
@@ -46,11 +49,11 @@ fn open_kit<F: Files, D: Dial>(
 }
 
 /// Opens a kit for each worker but the first, whose kit isn't among them. Where one can't be opened, for whatever
-/// reason, the extraction goes on without it, and no more are opened.
+/// reason, the extraction goes on without it, and no more are opened. All name chunks by this digest.
 pub fn open_kits<F: Files, D: Dial>(
-    alloc: Global,
     files: &mut F,
     dial: &D,
+    kind: DigestKind,
     stores: &[Location],
     seeds: &[Name],
     workers: usize,
@@ -61,13 +64,15 @@ pub fn open_kits<F: Files, D: Dial>(
     requires room { (vec_len kits.old ≡ 0) × (workers ≤ vec_capacity kits.old) }
     ensures opened { AreOpened F.Look.Look F.View.View D.state (F.disk files.old) (F.disk files.new) stores.now
         (map image_name seeds.now) kits.new.items }
+    ensures kinds { All (λ k. k.chain.kind ≡ kind) kits.new.items }
     ensures few { vec_len kits.new + 1 ≤ workers }
     ensures room { vec_len kits.new + 1 ≤ vec_capacity kits.new }
     ensures kept { Reads (F.disk files.old) (F.disk files.new) }
     ensures used { Uses (map image_name seeds.now) (folders_among stores.now) (F.disk files.old) (F.disk files.new) }
 {
+    let alloc = *kits.allocator();
     for _opened in 1..workers {
-        let Some(kit) = open_kit(alloc, files, dial, stores, seeds) else {
+        let Some(kit) = open_kit(alloc, files, dial, kind, stores, seeds) else {
             return;
         };
         kits.push(kit).unwrap();

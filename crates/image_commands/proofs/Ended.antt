@@ -2,6 +2,7 @@
 use Rattle.std.proofs.Common.{ℕ, List, [], ◌∷◌, Option, Result, Ok, Err, inl, inr, refl}
 use Rattle.buzhash_cut.specs.Sizes.{Sizes}
 use Rattle.caibx_codec.specs.Listing.{Listing}
+use Rattle.chunk_store.specs.declared.id.DigestKind.{DigestKind}
 use Rattle.command_outcome.specs.declared.outcome.Outcome.{Outcome}
 use Rattle.command_steps.specs.InputFiles.{ImageOpened, IndexRead}
 use Rattle.command_steps.specs.Sources.{storage}
@@ -23,14 +24,14 @@ chop_ends store index image l told held k j p a b c d e (Err o) read opened take
     inr (record { disk = b; dial = k; out = p; gave = l; did = (read, refl, refl); then = inr (record { disk = c; dial = k; out = p; gave = told; did = (opened, refl, refl); then = inr (record { disk = d; dial = k; out = p; gave = held; did = (taken, refl, refl); then = (chopped, refl) }) }) })
 
 -- the store was taken, and storing the image in it ended with r
-pub stored_into : (store : Location) (s : Sizes) (image : List ℕ) (told : Option (List ℕ)) (held : Option (Map (List ℕ))) (k j : DialState) (p : Output) (b c d : Disk) (r : Result (List ℕ) Outcome)
-    → SourceTaken (image ∷ []) store b (Ok held) c → ImageStored s image told store held (storage c k) r (storage d j) → StoredInto store s image told (world b k p) r (world d j p)
-stored_into store s image told held k j p b c d (Ok bytes) taken stored = record { disk = c; dial = k; out = p; gave = held; did = (taken, refl, refl); then = (stored, refl) }
-stored_into store s image told held k j p b c d (Err o) taken stored = inr (record { disk = c; dial = k; out = p; gave = held; did = (taken, refl, refl); then = (stored, refl) })
+pub stored_into : (store : Location) (kind : DigestKind) (s : Sizes) (image : List ℕ) (told : Option (List ℕ)) (held : Option (Map (List ℕ))) (k j : DialState) (p : Output) (b c d : Disk) (r : Result (List ℕ) Outcome)
+    → SourceTaken (image ∷ []) store b (Ok held) c → ImageStored kind s image told store held (storage c k) r (storage d j) → StoredInto store kind s image told (world b k p) r (world d j p)
+stored_into store kind s image told held k j p b c d (Ok bytes) taken stored = record { disk = c; dial = k; out = p; gave = held; did = (taken, refl, refl); then = (stored, refl) }
+stored_into store kind s image told held k j p b c d (Err o) taken stored = inr (record { disk = c; dial = k; out = p; gave = held; did = (taken, refl, refl); then = (stored, refl) })
 
 -- the image was opened. Storing it ended the command, or gave the bytes of its index
-module _ (store : Location) (sizes : List ℕ) (index image : List ℕ) (s : Sizes) (told : Option (List ℕ)) (k j : DialState) (p : Output) (a b d : Disk) (judged : SizesJudged sizes (Ok s)) (opened : ImageOpened image a (Ok told) b) where
-  pub make_fails : (o : Outcome) → StoredInto store s image told (world b k p) (Err o) (world d j p) → MakeEnds store sizes index image (world a k p) (Err o) (world d j p)
+module _ (store : Location) (kind : DigestKind) (sizes : List ℕ) (index image : List ℕ) (s : Sizes) (told : Option (List ℕ)) (k j : DialState) (p : Output) (a b d : Disk) (judged : SizesJudged sizes (Ok s)) (opened : ImageOpened image a (Ok told) b) where
+  pub make_fails : (o : Outcome) → StoredInto store kind s image told (world b k p) (Err o) (world d j p) → MakeEnds store kind sizes index image (world a k p) (Err o) (world d j p)
   make_fails o h =
       inr (record {
         disk = a;
@@ -51,7 +52,7 @@ module _ (store : Location) (sizes : List ℕ) (index image : List ℕ) (s : Siz
         });
       })
 
-  pub make_ends : (bytes : List ℕ) (e : Disk) (r : Result Unit Outcome) → StoredInto store s image told (world b k p) (Ok bytes) (world d j p) → IndexWritten index bytes d r e → MakeEnds store sizes index image (world a k p) r (world e j p)
+  pub make_ends : (bytes : List ℕ) (e : Disk) (r : Result Unit Outcome) → StoredInto store kind s image told (world b k p) (Ok bytes) (world d j p) → IndexWritten index bytes d r e → MakeEnds store kind sizes index image (world a k p) r (world e j p)
   make_ends bytes e (Ok u) h written =
       record { disk = a; dial = k; out = p; gave = s; did = (judged, refl); then = record { disk = b; dial = k; out = p; gave = told; did = (opened, refl, refl); then = record { disk = h.disk; dial = h.dial; out = h.out; gave = h.gave; did = h.did; then = record { disk = d; dial = j; out = p; gave = bytes; did = h.then; then = (written, refl, refl) } } } }
   make_ends bytes e (Err o) h written =

@@ -6,6 +6,7 @@ use Rattle.buzhash_cut.specs.Sizes.{Sizes}
 use Rattle.caibx_codec.specs.Listing.{Listing, count_of, id_of}
 use Rattle.chunk_store.specs.Folders.{chunks}
 use Rattle.chunk_store.specs.Said.{KeepsOf, Said}
+use Rattle.chunk_store.specs.declared.id.DigestKind.{DigestKind}
 use Rattle.command_outcome.specs.declared.outcome.Outcome.{Outcome}
 use Rattle.command_words.specs.declared.command.Location.{Location}
 use Rattle.command_words.specs.declared.command.Location.TheVariants as locations
@@ -104,8 +105,8 @@ says_more l k a b keeps says = λ i below.
     let s = says i below in
     (s.0, s.1, elim s.2 [ inl shown ↦ inl ((keeps (id_of l i)).shown s.0 shown) | inr taken ↦ inr ((keeps (id_of l i)).taken s.0 taken) ])
 
-pub stored_more : (s : Sizes) (told : Option (List ℕ)) (bytes : List ℕ) (a b : Said) → ((id : List ℕ) → KeepsOf a b id) → SaysOf s told bytes a → SaysOf s told bytes b
-stored_more s told bytes a b keeps says = (says.0, says.1, says.2, says.3, says_more says.0 (count_of says.0) a b keeps says.4)
+pub stored_more : (kind : DigestKind) (s : Sizes) (told : Option (List ℕ)) (bytes : List ℕ) (a b : Said) → ((id : List ℕ) → KeepsOf a b id) → SaysOf kind s told bytes a → SaysOf kind s told bytes b
+stored_more kind s told bytes a b keeps says = (says.0, says.1, says.2, says.3, says_more says.0 (count_of says.0) a b keeps says.4)
 
 same_there : {A : Type 0} (o : Option A) (y : Option (Map (Map (List ℕ)))) → IfSome y (λ m. o ≡ o)
 same_there o None = tt

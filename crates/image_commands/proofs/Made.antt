@@ -10,6 +10,7 @@ use Rattle.std.specs.Option.{option_map}
 use Rattle.caibx_codec.specs.Listing.{Listing, count_of, id_of}
 use Rattle.chunk_store.proofs.Sends.{sends_still}
 use Rattle.chunk_store.specs.Asks.{Ask, Sends}
+use Rattle.chunk_store.specs.declared.id.DigestKind.{DigestKind}
 use Rattle.command_steps.proofs.AskedOnly.{each_asked_only}
 use Rattle.command_steps.specs.AnyStores.{IsUnused, asked_in, location_in, source_sent, with_those}
 use Rattle.command_steps.specs.Asking.{AsksOnly, EachDialed}
@@ -32,17 +33,17 @@ use Rattle.image_store.specs.StoreImage.{Lists, PutsFilesOf, SendsOf, StoresImag
 use Rattle.image_store.specs.declared.put_chunks.MakeFault.{MakeFault}
 
 -- what storing made of the files of a folder
-pub made_of : (s : Sizes) (told : Option (List ℕ)) (r : Result (List ℕ) MakeFault) (old new : Option (Map (List ℕ))) → IfSome told (λ t. IfSome (option_map chunks old) (λ m. IfSome (option_map chunks new) (λ n. StoresImage s (λ b. b) t m n r)))
-    → PutsFilesOf s told (option_map chunks old) old new → IfSome old (λ f. IfSome new (λ g. MadeOf s told r f g))
-made_of s told r None new holds files = tt
-made_of s told r (Some f) None holds files = tt
-made_of s told r (Some f) (Some g) holds files = record { holds = holds; files = files }
+pub made_of : (kind : DigestKind) (s : Sizes) (told : Option (List ℕ)) (r : Result (List ℕ) MakeFault) (old new : Option (Map (List ℕ))) → IfSome told (λ t. IfSome (option_map chunks old) (λ m. IfSome (option_map chunks new) (λ n. StoresImage kind s (λ b. b) t m n r)))
+    → PutsFilesOf kind s told (option_map chunks old) old new → IfSome old (λ f. IfSome new (λ g. MadeOf kind s told r f g))
+made_of kind s told r None new holds files = tt
+made_of kind s told r (Some f) None holds files = tt
+made_of kind s told r (Some f) (Some g) holds files = record { holds = holds; files = files }
 
 -- or nothing
-pub unmade : (s : Sizes) (told : Option (List ℕ)) (r : Result (List ℕ) MakeFault) (old new : Option (Map (List ℕ))) → new ≡ old → IfSome old (λ f. IfSome new (λ g. MadeOf s told r f g)) → IfSome old (λ f. IfSome new (λ g. (g ≡ f) × MadeOf s told r f g))
-unmade s told r None new same of = tt
-unmade s told r (Some f) None same of = tt
-unmade s told r (Some f) (Some g) same of = (ap (λ o. unwrap_or o g) same, of)
+pub unmade : (kind : DigestKind) (s : Sizes) (told : Option (List ℕ)) (r : Result (List ℕ) MakeFault) (old new : Option (Map (List ℕ))) → new ≡ old → IfSome old (λ f. IfSome new (λ g. MadeOf kind s told r f g)) → IfSome old (λ f. IfSome new (λ g. (g ≡ f) × MadeOf kind s told r f g))
+unmade kind s told r None new same of = tt
+unmade kind s told r (Some f) None same of = tt
+unmade kind s told r (Some f) (Some g) same of = (ap (λ o. unwrap_or o g) same, of)
 
 pub if_some : {X : Type 0} (o : Option X) (P Q : X → Type 0) → ((x : X) → P x → Q x) → IfSome o P → IfSome o Q
 if_some None P Q f h = tt
@@ -59,10 +60,10 @@ listed_once l q is =
     let one : p (get_or l.entries is.entry (0, [])) ≡ 1 = ap (λ b. cond b 1 0) ((bytes_eq-Decides (id_of l is.entry) q).1 (sym is.id)) in
     omega (arith, same, here, one)
 
-pub gets_image : {L D K : Type 0} (place : L → List ℕ) (state : D → DialState) (s : Sizes) (told : Option (List ℕ)) (old new : AnyStore L D K) (store : Location) (w v : Option (List Traffic)) → IsUnused state old → location_in place new ≡ store
-    → SendsOf s told (asked_in method.Get state old) (asked_in method.Get state new) (source_sent state old) (source_sent state new) → asked_in method.Head state new ≡ asked_in method.Head state old → v ≡ with_those state w new
-    → EachDialed (AsksOnly (λ id. 0) (λ id. 0) (λ a. ⊥)) (store ∷ []) w v ⊎ ((l : Listing) × Lists s told l × EachDialed (AsksOnly (once_listed l) (λ id. 0) (KeepsListed l)) (store ∷ []) w v)
-gets_image {L} {D} {K} place state s told old new store w v unused located asked queried ended = go asked where
+pub gets_image : {L D K : Type 0} (place : L → List ℕ) (state : D → DialState) (kind : DigestKind) (s : Sizes) (told : Option (List ℕ)) (old new : AnyStore L D K) (store : Location) (w v : Option (List Traffic)) → IsUnused state old → location_in place new ≡ store
+    → SendsOf kind s told (asked_in method.Get state old) (asked_in method.Get state new) (source_sent state old) (source_sent state new) → asked_in method.Head state new ≡ asked_in method.Head state old → v ≡ with_those state w new
+    → EachDialed (AsksOnly (λ id. 0) (λ id. 0) (λ a. ⊥)) (store ∷ []) w v ⊎ ((l : Listing) × Lists kind s told l × EachDialed (AsksOnly (once_listed l) (λ id. 0) (KeepsListed l)) (store ∷ []) w v)
+gets_image {L} {D} {K} place state kind s told old new store w v unused located asked queried ended = go asked where
   heads : (q : List ℕ) → asked_in method.Head state new q ≤ asked_in method.Head state old q + 0
   heads q = let same : asked_in method.Head state new q ≡ asked_in method.Head state old q = ap (λ f. f q) queried in omega (arith, same)
 
@@ -77,8 +78,8 @@ gets_image {L} {D} {K} place state s told old new store w v unused located asked
   once l each q (inl same) = omega (arith, same)
   once l each q (inr is) = let most = each.once q in let some = listed_once l q is in omega (arith, most, some)
 
-  go : SendsOf s told (asked_in method.Get state old) (asked_in method.Get state new) (source_sent state old) (source_sent state new)
-      → EachDialed (AsksOnly (λ id. 0) (λ id. 0) (λ a. ⊥)) (store ∷ []) w v ⊎ ((l : Listing) × Lists s told l × EachDialed (AsksOnly (once_listed l) (λ id. 0) (KeepsListed l)) (store ∷ []) w v)
+  go : SendsOf kind s told (asked_in method.Get state old) (asked_in method.Get state new) (source_sent state old) (source_sent state new)
+      → EachDialed (AsksOnly (λ id. 0) (λ id. 0) (λ a. ⊥)) (store ∷ []) w v ⊎ ((l : Listing) × Lists kind s told l × EachDialed (AsksOnly (once_listed l) (λ id. 0) (KeepsListed l)) (store ∷ []) w v)
   go (inl same) =
       let still : Sends (λ a. ⊥) (source_sent state old) (source_sent state new) =
       subst (λ t. Sends (λ a. ⊥) (source_sent state old) t) (sym same.1) (sends_still (λ a. ⊥) (source_sent state old)) in

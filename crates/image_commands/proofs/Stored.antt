@@ -5,6 +5,7 @@ use Rattle.buzhash_cut.specs.Image.{HasTooManyCuts}
 use Rattle.buzhash_cut.specs.Sizes.{Sizes}
 use Rattle.chunk_store.specs.Folders.{chunks}
 use Rattle.chunk_store.specs.Said.{KeepsOf, Said}
+use Rattle.chunk_store.specs.declared.id.DigestKind.{DigestKind}
 use Rattle.command_outcome.specs.declared.outcome.Outcome.{Outcome}
 use Rattle.command_steps.specs.Sources.{Storage, StoreRose}
 use Rattle.command_words.specs.declared.command.Location.{Location}
@@ -26,22 +27,22 @@ seen_as of (Ok a) = Ok (of a)
 seen_as of (Err e) = Err e
 
 -- what a server has said of an image that was stored
-abbrev pub SaidAfter : Sizes → Option (List ℕ) → Result (List ℕ) MakeFault → Said → Type 0
-SaidAfter s told (Ok bytes) = SaysOf s told bytes
-SaidAfter s told (Err fault) = AnySaid
+abbrev pub SaidAfter : DigestKind → Sizes → Option (List ℕ) → Result (List ℕ) MakeFault → Said → Type 0
+SaidAfter kind s told (Ok bytes) = SaysOf kind s told bytes
+SaidAfter kind s told (Err fault) = AnySaid
 
 -- there aren't too many cuts where no fault of cutting is told
 few : {A : Type 0} (s : Sizes) (told : Option (List ℕ)) (r : Result A MakeFault) (Z : Type 0) → IfSome told (λ t. HasTooManyCuts s t → IsErrAnd r IsOfCutting × Z) → (IsErrAnd r IsOfCutting → ⊥) → HasFewCuts s told
 few s None r Z many not = tt
 few s (Some t) r Z many not = λ x. not (many x).0
 
-module _ (s : Sizes) (image : List ℕ) (told : Option (List ℕ)) (store : Location) (held : Option (Map (List ℕ))) (w v : Storage) {A : Type 0} (of : A → List ℕ) where
+module _ (kind : DigestKind) (s : Sizes) (image : List ℕ) (told : Option (List ℕ)) (store : Location) (held : Option (Map (List ℕ))) (w v : Storage) {A : Type 0} (of : A → List ℕ) where
   pub stored_ended : (r : Result A MakeFault) (Z : Type 0) → IfSome told (λ t. HasTooManyCuts s t → IsErrAnd r IsOfCutting × Z) → IfErr r (IsOfImage s told)
-      → StoreGiven store held (MadeOf s told (seen_as of r)) (SaidAfter s told (seen_as of r)) w v
-      → (r ≡ Err faults.TooManyItems → StoreGiven store held (λ f g. (g ≡ f) × MadeOf s told (seen_as of r) f g) AnySaid w v)
+      → StoreGiven store held (MadeOf kind s told (seen_as of r)) (SaidAfter kind s told (seen_as of r)) w v
+      → (r ≡ Err faults.TooManyItems → StoreGiven store held (λ f g. (g ≡ f) × MadeOf kind s told (seen_as of r) f g) AnySaid w v)
       → (r ≡ Err faults.ImageFault → FileRose w.disk v.disk image) → (r ≡ Err faults.StoreFault → StoreRose w v store)
-      → WritesStore (image ∷ []) store w v → GetsImage s told store w v
-      → ImageStored s image told store held w (seen_as of (answer_of_storing r)) v
+      → WritesStore (image ∷ []) store w v → GetsImage kind s told store w v
+      → ImageStored kind s image told store held w (seen_as of (answer_of_storing r)) v
   stored_ended (Ok a) Z many cause given same image_rose store_rose kept gets = (few {A = A} s told (Ok a) Z many (λ x. x), given, kept, gets)
   stored_ended (Err faults.TooManyItems) Z many cause given same image_rose store_rose kept gets = ((cause, same refl), kept, gets)
   stored_ended (Err faults.ImageFault) Z many cause given same image_rose store_rose kept gets = ((image_rose refl, given), kept, gets)
@@ -61,19 +62,19 @@ module _ {A : Type 0} (of : A → List ℕ) (Y : List ℕ → Option (List ℕ) 
 
 -- ---- what storing says of each view's image, of what they tell
 
-pub said_more : (s : Sizes) (told : Option (List ℕ)) (r : Result (List ℕ) MakeFault) (a b : Said) → ((id : List ℕ) → KeepsOf a b id) → SaidAfter s told r a → SaidAfter s told r b
-said_more s told (Ok bytes) a b keeps says = stored_more s told bytes a b keeps says
-said_more s told (Err fault) a b keeps says = tt
+pub said_more : (kind : DigestKind) (s : Sizes) (told : Option (List ℕ)) (r : Result (List ℕ) MakeFault) (a b : Said) → ((id : List ℕ) → KeepsOf a b id) → SaidAfter kind s told r a → SaidAfter kind s told r b
+said_more kind s told (Ok bytes) a b keeps says = stored_more kind s told bytes a b keeps says
+said_more kind s told (Err fault) a b keeps says = tt
 
-pub made_as : {A : Type 0} (of : A → List ℕ) (s : Sizes) (told : Option (List ℕ)) (r : Result A MakeFault) (old new : Option (Map (List ℕ)))
-    → IfSome told (λ t. IfSome (option_map chunks old) (λ m. IfSome (option_map chunks new) (λ n. StoresImage s of t m n r)))
-    → PutsFilesOf s told (option_map chunks old) old new → IfSome old (λ f. IfSome new (λ g. MadeOf s told (seen_as of r) f g))
-made_as of s told (Ok a) old new holds files = made_of s told (Ok (of a)) old new holds files
-made_as of s told (Err fault) old new holds files = made_of s told (Err fault) old new holds files
+pub made_as : {A : Type 0} (of : A → List ℕ) (kind : DigestKind) (s : Sizes) (told : Option (List ℕ)) (r : Result A MakeFault) (old new : Option (Map (List ℕ)))
+    → IfSome told (λ t. IfSome (option_map chunks old) (λ m. IfSome (option_map chunks new) (λ n. StoresImage kind s of t m n r)))
+    → PutsFilesOf kind s told (option_map chunks old) old new → IfSome old (λ f. IfSome new (λ g. MadeOf kind s told (seen_as of r) f g))
+made_as of kind s told (Ok a) old new holds files = made_of kind s told (Ok (of a)) old new holds files
+made_as of kind s told (Err fault) old new holds files = made_of kind s told (Err fault) old new holds files
 
-module _ {X A : Type 0} (of : A → List ℕ) (H : X → Held) (xs : List X) (q : List ℕ) (told : Option (List ℕ)) (some : 0 < length xs) (are : AreOf q told (map H xs)) (s : Sizes) where
-  pub said_after : (r : Result A MakeFault) (said : Said) → IfOk r (λ a. All (λ v. SaysOf s (H v).bytes (of a) said) xs) → SaidAfter s told (seen_as of r) said
-  said_after (Ok a) said h = said_of H xs q told some are s (of a) said h
+module _ {X A : Type 0} (of : A → List ℕ) (H : X → Held) (xs : List X) (q : List ℕ) (told : Option (List ℕ)) (some : 0 < length xs) (are : AreOf q told (map H xs)) (kind : DigestKind) (s : Sizes) where
+  pub said_after : (r : Result A MakeFault) (said : Said) → IfOk r (λ a. All (λ v. SaysOf kind s (H v).bytes (of a) said) xs) → SaidAfter kind s told (seen_as of r) said
+  said_after (Ok a) said h = said_of H xs q told some are kind s (of a) said h
   said_after (Err fault) said h = tt
 
   pub cause_of : (r : Result A MakeFault) → IfErr r (λ e. All (λ v. IsOfImage s (H v).bytes e) xs) → IfErr r (IsOfImage s told)

@@ -5,6 +5,7 @@ use Rattle.std.proofs.lemmas.List.Elements.{All-map}
 use Rattle.std.specs.Map.{count_at}
 use Rattle.buzhash_cut.specs.Sizes.{Sizes}
 use Rattle.chunk_store.specs.Said.{Said}
+use Rattle.chunk_store.specs.declared.id.DigestKind.{DigestKind}
 use Rattle.command_steps.proofs.Numbers.{given_rose, rose_longer}
 use Rattle.command_worlds.specs.Worlds.{FileRose}
 use Rattle.dsy_base.specs.Bytes.{Held}
@@ -39,13 +40,13 @@ first_rose H f d e (x ∷ xs) (y ∷ ys) q told some same are none added rose =
     subst (FileRose d e) name (rose_longer a (raised a (f y)) (count_at e.file_counts (H y).name) added (given_rose a a (raised a (f y)) (f y) (omega arith) refl more))
 
 -- what storing says of each view's image, of what they tell
-module _ {X : Type 0} (H : X → Held) (xs : List X) (q : List ℕ) (told : Option (List ℕ)) (some : 0 < length xs) (are : AreOf q told (map H xs)) (s : Sizes) where
-  pub exactly_of : {A : Type 0} (bytes_of : A → List ℕ) (old new : Option (Map (List ℕ))) (r : Result A MakeFault) → All (λ v. IfSome (H v).bytes (λ t. IfSome old (λ a. IfSome new (λ b. StoresImage s bytes_of t a b r)))) xs
-      → IfSome told (λ t. IfSome old (λ a. IfSome new (λ b. StoresImage s bytes_of t a b r)))
-  exactly_of bytes_of old new r = of_first H xs q told some are (λ o. IfSome o (λ t. IfSome old (λ a. IfSome new (λ b. StoresImage s bytes_of t a b r))))
+module _ {X : Type 0} (H : X → Held) (xs : List X) (q : List ℕ) (told : Option (List ℕ)) (some : 0 < length xs) (are : AreOf q told (map H xs)) (kind : DigestKind) (s : Sizes) where
+  pub exactly_of : {A : Type 0} (bytes_of : A → List ℕ) (old new : Option (Map (List ℕ))) (r : Result A MakeFault) → All (λ v. IfSome (H v).bytes (λ t. IfSome old (λ a. IfSome new (λ b. StoresImage kind s bytes_of t a b r)))) xs
+      → IfSome told (λ t. IfSome old (λ a. IfSome new (λ b. StoresImage kind s bytes_of t a b r)))
+  exactly_of bytes_of old new r = of_first H xs q told some are (λ o. IfSome o (λ t. IfSome old (λ a. IfSome new (λ b. StoresImage kind s bytes_of t a b r))))
 
-  pub files_of : (held old new : ToldMap) → All (λ v. PutsFilesOf s (H v).bytes held old new) xs → PutsFilesOf s told held old new
-  files_of held old new = of_first H xs q told some are (λ o. PutsFilesOf s o held old new)
+  pub files_of : (held old new : ToldMap) → All (λ v. PutsFilesOf kind s (H v).bytes held old new) xs → PutsFilesOf kind s told held old new
+  files_of held old new = of_first H xs q told some are (λ o. PutsFilesOf kind s o held old new)
 
-  pub said_of : (bytes : List ℕ) (said : Said) → All (λ v. SaysOf s (H v).bytes bytes said) xs → SaysOf s told bytes said
-  said_of bytes said = of_first H xs q told some are (λ o. SaysOf s o bytes said)
+  pub said_of : (bytes : List ℕ) (said : Said) → All (λ v. SaysOf kind s (H v).bytes bytes said) xs → SaysOf kind s told bytes said
+  said_of bytes said = of_first H xs q told some are (λ o. SaysOf kind s o bytes said)

@@ -9,6 +9,7 @@ use Rattle.caibx_codec.specs.Listing.{Listing, count_of, id_of}
 use Rattle.caibx_codec.specs.Spelling.{IsIndexFile, file_of}
 use Rattle.chunk_store.specs.Folders.{chunks}
 use Rattle.chunk_store.specs.Said.{Said}
+use Rattle.chunk_store.specs.declared.id.DigestKind.{DigestKind}
 use Rattle.command_outcome.specs.declared.outcome.Outcome.{Outcome}
 use Rattle.command_outcome.specs.declared.outcome.Outcome.TheVariants as ends
 use Rattle.command_steps.specs.Asking.{AsksOnly, EachDialed}
@@ -67,10 +68,11 @@ pub record WritesStore (images : List (List ℕ)) (store : Location) (w v : Stor
   pub used : Uses images (folders_among (store ∷ [])) w.disk v.disk
 
 -- what storing the image made of the folder's files f: g. `told` are the image's bytes, where they are told
-pub record MadeOf (s : Sizes) (told : Option (List ℕ)) (r : Result (List ℕ) MakeFault) (f g : Map (List ℕ)) : Type 0
+pub record MadeOf (kind : DigestKind) (s : Sizes) (told : Option (List ℕ)) (r : Result (List ℕ) MakeFault)
+    (f g : Map (List ℕ)) : Type 0
   where
-    pub holds : IfSome told (λ t. StoresImage s (λ b. b) t (chunks f) (chunks g) r)
-    pub files : PutsFilesOf s told (Some (chunks f)) (Some f) (Some g)
+    pub holds : IfSome told (λ t. StoresImage kind s (λ b. b) t (chunks f) (chunks g) r)
+    pub files : PutsFilesOf kind s told (Some (chunks f)) (Some f) (Some g)
 
 -- the image has no more cuts than an index may list
 abbrev pub HasFewCuts : Sizes → Option (List ℕ) → Type 0
@@ -83,35 +85,37 @@ once_listed l id = min 1 (times_listed l (count_of l) id)
 -- a server is asked for the chunk of an id at most once, and only if the image's index lists it; and never whether it
 -- has one. Each connection sent a front of such a request, or of one that puts, under a listed id, bytes that have this
 -- digest
-abbrev pub GetsImage : Sizes → Option (List ℕ) → Location → Storage → Storage → Type 0
-GetsImage s told store w v = EachDialed (AsksOnly (λ id. 0) (λ id. 0) (λ a. ⊥)) (store ∷ []) w.dial.ended v.dial.ended
-    ⊎ ((l : Listing) × Lists s told l
+abbrev pub GetsImage : DigestKind → Sizes → Option (List ℕ) → Location → Storage → Storage → Type 0
+GetsImage kind s told store w v =
+    EachDialed (AsksOnly (λ id. 0) (λ id. 0) (λ a. ⊥)) (store ∷ []) w.dial.ended v.dial.ended
+    ⊎ ((l : Listing) × Lists kind s told l
     × EachDialed (AsksOnly (once_listed l) (λ id. 0) (KeepsListed l)) (store ∷ []) w.dial.ended v.dial.ended)
 
-module _ (s : Sizes) (image : List ℕ) (told : Option (List ℕ)) (store : Location) (held : Option (Map (List ℕ))) where
+module _ (kind : DigestKind) (s : Sizes) (image : List ℕ) (told : Option (List ℕ)) (store : Location)
+    (held : Option (Map (List ℕ))) where
   abbrev pub NotStored : Storage → Storage → Outcome → Type 0
   NotStored w v ends.TooManyItems = IfSome told (λ t. HasTooManyCuts s t)
-      × StoreGiven store held (λ f g. (g ≡ f) × MadeOf s told (Err faults.TooManyItems) f g) AnySaid w v
+      × StoreGiven store held (λ f g. (g ≡ f) × MadeOf kind s told (Err faults.TooManyItems) f g) AnySaid w v
   NotStored w v ends.ImageFault = FileRose w.disk v.disk image
-      × StoreGiven store held (MadeOf s told (Err faults.ImageFault)) AnySaid w v
+      × StoreGiven store held (MadeOf kind s told (Err faults.ImageFault)) AnySaid w v
   NotStored w v (ends.Changed k was got) = (told ≡ None) × (was.0 ≢ got.0)
-      × StoreGiven store held (MadeOf s told (Err (faults.Changed k was got))) AnySaid w v
+      × StoreGiven store held (MadeOf kind s told (Err (faults.Changed k was got))) AnySaid w v
   NotStored w v (ends.StoreFault k) = (k ≡ 0) × StoreRose w v store × HasFewCuts s told
-      × StoreGiven store held (MadeOf s told (Err faults.StoreFault)) AnySaid w v
-  NotStored w v ends.Memory = StoreGiven store held (MadeOf s told (Err faults.Memory)) AnySaid w v
+      × StoreGiven store held (MadeOf kind s told (Err faults.StoreFault)) AnySaid w v
+  NotStored w v ends.Memory = StoreGiven store held (MadeOf kind s told (Err faults.Memory)) AnySaid w v
   NotStored w v other = ⊥
 
   abbrev pub ImageStored : Step Storage (List ℕ)
   ImageStored w (Ok bytes) v = HasFewCuts s told
-      × StoreGiven store held (MadeOf s told (Ok bytes)) (SaysOf s told bytes) w v × WritesStore (image ∷ []) store w v
-      × GetsImage s told store w v
-  ImageStored w (Err o) v = NotStored w v o × WritesStore (image ∷ []) store w v × GetsImage s told store w v
+      × StoreGiven store held (MadeOf kind s told (Ok bytes)) (SaysOf kind s told bytes) w v
+      × WritesStore (image ∷ []) store w v × GetsImage kind s told store w v
+  ImageStored w (Err o) v = NotStored w v o × WritesStore (image ∷ []) store w v × GetsImage kind s told store w v
 
 -- the store is taken, and the image stored in it
-abbrev pub StoredInto : Location → Sizes → List ℕ → Option (List ℕ) → Step World (List ℕ)
-StoredInto store s image told = do
+abbrev pub StoredInto : Location → DigestKind → Sizes → List ℕ → Option (List ℕ) → Step World (List ℕ)
+StoredInto store kind s image told = do
   held ← OnDisk (SourceTaken (image ∷ []) store)
-  OnStorage (ImageStored s image told store held)
+  OnStorage (ImageStored kind s image told store held)
 
 -- the answer of storing, where what it gives is seen as A
 abbrev pub answer_of_storing : {A : Type 0} → Result A MakeFault → Result A Outcome
@@ -136,23 +140,25 @@ IndexWritten q bytes d (Err o) e = NotWritten d e q o × (e.files ≡ d.files) �
 
 -- ---- the command
 
-abbrev pub MakeEnds : Location → List ℕ → List ℕ → List ℕ → Step World Unit
-MakeEnds store sizes index image = do
+abbrev pub MakeEnds : Location → DigestKind → List ℕ → List ℕ → List ℕ → Step World Unit
+MakeEnds store kind sizes index image = do
   s ← Pure (SizesJudged sizes)
   told ← OnDisk (ImageOpened image)
   held ← OnDisk (SourceTaken (image ∷ []) store)
-  bytes ← OnStorage (ImageStored s image told store held)
+  bytes ← OnStorage (ImageStored kind s image told store held)
   OnDisk (IndexWritten index bytes)
 
--- INDEX holds the index file of this index, which is that of the image that IMAGE held
-pub record IsMade (files files_after : Map (List ℕ)) (sizes index image : List ℕ) (l : Listing) : Type 0 where
-  pub bytes : List ℕ
-  pub image_was : files image ≡ Some bytes
-  pub of_image : IsIndexOfImage (cut_sizes_of sizes) bytes l
-  pub file : List ℕ
-  pub written : files_after index ≡ Some file
-  pub is_file : IsIndexFile file l
-  pub spelled : file ≡ file_of l
+-- INDEX holds the index file of this index, which is that of the image that IMAGE held, its chunks named by this digest
+pub record IsMade (files files_after : Map (List ℕ)) (kind : DigestKind) (sizes index image : List ℕ) (l : Listing) :
+    Type 0
+  where
+    pub bytes : List ℕ
+    pub image_was : files image ≡ Some bytes
+    pub of_image : IsIndexOfImage kind (cut_sizes_of sizes) bytes l
+    pub file : List ℕ
+    pub written : files_after index ≡ Some file
+    pub is_file : IsIndexFile file l
+    pub spelled : file ≡ file_of l
 
 -- the folder holds under each id that l lists bytes of that name, and under each other id what it held
 pub record FolderHas (folders folders_after : Map (Map (List ℕ))) (folder : List ℕ) (l : Listing) : Type 0 where

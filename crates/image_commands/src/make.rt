@@ -9,6 +9,7 @@ ghost use Rattle.image_commands.specs.Make.{IndexWritten, MakeEnds, SizesJudged,
 ghost use Rattle.dsy_base.specs.Disk.{Output};
 
 use buzhash_cut::sizes::CutSizes;
+use chunk_store::id::DigestKind;
 use command_outcome::outcome::Outcome;
 use command_steps::taken_stores::{give_source, take_source};
 use command_words::command::Location;
@@ -41,8 +42,16 @@ pub struct Making {
     pub store: Location,
     pub sizes: [u64; 3],
     pub workers: u32,
+    pub digest: DigestKind,
     pub index: Name,
     pub image: Name,
+}
+
+// How an image is indexed: the sizes by which it is cut, and the digest that names its chunks.
+#[derive(Clone, Copy)]
+struct Indexing {
+    sizes: CutSizes,
+    digest: DigestKind,
 }
 
 // The subfolders of a store's folder, which contracts see under the place of the store.
@@ -94,7 +103,7 @@ fn store_into<R: Threads + Sync, F: ImageFiles, D: Dial>(
     alloc: Global,
     files: &mut F,
     dial: &mut D,
-    sizes: &CutSizes,
+    by: &Indexing,
     store: &Location,
     views: Vec<F::View>,
 ) -> Result<Vec<u8>, Outcome>
@@ -106,11 +115,13 @@ where
     requires known { All (λ v. IsSome ((F.disk files.old).file_counts (F.View.held v).name)) views.items }
     requires fresh { All (λ v. F.View.faults v ≡ 0) views.items }
     ensures ok { IfOk result (λ b. (q : List ℕ) (told : Option (List ℕ)) →
-        AreOf q told (map F.View.held views.items) → (p : Output) → StoredInto store.now sizes.now q told
+        AreOf q told (map F.View.held views.items) → (p : Output) →
+        StoredInto store.now by.now.digest by.now.sizes q told
         (world (F.disk files.old) (D.state dial.old) p) (Ok b.items)
         (world (F.disk files.new) (D.state dial.new) p)) }
     ensures err { IfErr result (λ o. (q : List ℕ) (told : Option (List ℕ)) →
-        AreOf q told (map F.View.held views.items) → (p : Output) → StoredInto store.now sizes.now q told
+        AreOf q told (map F.View.held views.items) → (p : Output) →
+        StoredInto store.now by.now.digest by.now.sizes q told
         (world (F.disk files.old) (D.state dial.old) p) (Err o)
         (world (F.disk files.new) (D.state dial.new) p)) }
 {
@@ -124,7 +135,8 @@ where
     let (views, taken, stored) = store_image(
         rt,
         alloc,
-        sizes,
+        &by.sizes,
+        by.digest,
         views,
         taken,
         &inner_of(files, store),
@@ -145,8 +157,8 @@ fn write_index<F: Files>(files: &mut F, name: Name, bytes: &[u8]) -> Result<(), 
     }
 }
 
-/// Makes INDEX the index of IMAGE, cut by the sizes with this many workers, and puts its chunks into STORE. What STORE
-/// holds already is left where it is right.
+/// Makes INDEX the index of IMAGE, cut by the sizes with this many workers and its chunks named by the digest, and puts
+/// its chunks into STORE. What STORE holds already is left where it is right.
 pub fn make<R: Threads + Sync, F: ImageFiles, D: Dial>(
     rt: &R,
     alloc: Global,
@@ -157,7 +169,7 @@ pub fn make<R: Threads + Sync, F: ImageFiles, D: Dial>(
 where
     F::View: Send,
     F::Inner: Sync,
-    ensures ends { (p : Output) → MakeEnds words.store words.sizes words.index words.image
+    ensures ends { (p : Output) → MakeEnds words.store words.digest words.sizes words.index words.image
         (world (F.disk files.old) (D.state dial.old) p) result
         (world (F.disk files.new) (D.state dial.new) p) }
 {
@@ -165,11 +177,13 @@ where
         store,
         sizes,
         workers,
+        digest,
         index,
         image,
     } = words;
     let sizes = judge(sizes)?;
+    let by = Indexing { sizes, digest };
     let views = open_views(alloc, files, image, workers)?;
-    let bytes = store_into(rt, alloc, files, dial, &sizes, &store, views)?;
+    let bytes = store_into(rt, alloc, files, dial, &by, &store, views)?;
     write_index(files, index, &bytes)
 }

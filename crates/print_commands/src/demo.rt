@@ -8,6 +8,7 @@ ghost use Rattle.dsy_base.specs.Disk.{Disk};
 ghost use Rattle.dsy_base.specs.Links.{DialState};
 ghost use Rattle.image_demo.specs.Figures.{text_of_figures};
 
+use chunk_store::id::DigestKind;
 use command_outcome::outcome::Outcome;
 use command_worlds::printing::printed;
 use dsy_base::sink::Sink;
@@ -25,11 +26,12 @@ fn rehearse<R: Threads + Wait + Sync>(
     number: u64,
     size: u64,
     workers: usize,
+    kind: DigestKind,
 ) -> Result<Figures, Outcome>
     requires { size ≤ 2 ^ 29 }
-    ensures { Rehearsed number size result }
+    ensures { Rehearsed kind number size result }
 {
-    match demo_figures(rt, alloc, number, size, workers) {
+    match demo_figures(rt, alloc, number, size, workers, kind) {
         Ok(figures) => Ok(figures),
         Err(DemoFault::Mismatch { entry, id }) => Err(Outcome::Mismatch { entry, got: id }),
         Err(DemoFault::Memory) => Err(Outcome::Memory),
@@ -44,8 +46,9 @@ fn print<O: Sink>(alloc: Global, figures: &Figures, out: &mut O) -> Result<(), O
     printed(figures.put(alloc, out))
 }
 
-/// Prints what it takes to make the image of NUMBER and SIZE from a seed and a store in memory. It is the same whatever
-/// the number of workers is: 1 to 32, and what is beyond that counts as the nearer of the two.
+/// Prints what it takes to make the image of NUMBER and SIZE from a seed and a store in memory, its chunks named by
+/// this digest. It is the same whatever the number of workers is: 1 to 32, and what is beyond that counts as the nearer
+/// of the two.
 pub fn demo<R: Threads + Wait + Sync, O: Sink>(
     rt: &R,
     alloc: Global,
@@ -53,12 +56,13 @@ pub fn demo<R: Threads + Wait + Sync, O: Sink>(
     number: u64,
     size: u64,
     workers: usize,
+    kind: DigestKind,
 ) -> Result<(), Outcome>
     requires { size ≤ 2 ^ 29 }
-    ensures ends { (d : Disk) (k : DialState) → DemoEnds number size (world d k (O.output out.old)) result
+    ensures ends { (d : Disk) (k : DialState) → DemoEnds kind number size (world d k (O.output out.old)) result
         (world d k (O.output out.new)) }
 {
-    let figures = rehearse(rt, alloc, number, size, workers)?;
+    let figures = rehearse(rt, alloc, number, size, workers, kind)?;
     print(alloc, &figures, out)?;
     Ok(())
 }

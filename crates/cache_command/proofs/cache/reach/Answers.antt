@@ -16,10 +16,7 @@ use Rattle.command_words.specs.declared.command.Location.{Location}
 
 pub filling_of-requires : goal.filling_of-requires
 filling_of-requires g c =
-    record {
-      size = opened_many (location_in g.F.Look.Look.place) c.args.stores.now c.in-Ok.opened.items c.in-Ok.ensures.located c.requires.size;
-      kind = c.in-Ok-take_shelf.ensures.fresh.1;
-    }
+    record { size = opened_many (location_in g.F.Look.Look.place) c.args.stores.now c.in-Ok.opened.items c.in-Ok.ensures.located c.requires.size }
 
 pub drop_chains-requires : goal.drop_chains-requires
 drop_chains-requires g c =
@@ -94,7 +91,7 @@ returns-in-Ok-take_shelf-clause-fresh g c =
     let t = shelf_of D.files D.place D.faults c.in-Ok-take_shelf.shelf in
     let reached = cache_reads [] (Some c.args.cache.now) b (with_cache (Some t) m) (Ok tt) c.in-Ok-take_shelf.ensures.ok in
     just_reached look g.D.Dial.state _ refl g.F.Files.tells g.met.F.Look.Look.told g.met.F.ImageFiles.unseen.0 (at c.args.files.now) a b m s t c.args.cache.now c.args.stores.now c.filling_of.result.cached.chain c.in-Ok.opened.items c.filling_of.result.further.items c.open_chains-further.result.items
-    (ap (shelf_of D.files D.place D.faults) made.shelf) made.stores (ap (λ v. v.items) made.further) made.kind (g.met.F.Files.told c.open_sources.new.files).1 opened.kept further.kept reached opened.located opened.found opened.fresh opened.unused opened.known further.opened
+    (ap (shelf_of D.files D.place D.faults) made.shelf) made.stores (ap (λ v. v.items) made.further) (g.met.F.Files.told c.open_sources.new.files).1 opened.kept further.kept reached opened.located opened.found opened.fresh opened.unused opened.known further.opened
     c.in-Ok-take_shelf.ensures.named c.in-Ok-take_shelf.ensures.known c.in-Ok-take_shelf.ensures.fresh.0
 
 pub returns-in-Ok-take_shelf-clause-located : goal.returns-in-Ok-take_shelf-clause-located

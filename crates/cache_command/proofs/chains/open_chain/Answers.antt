@@ -20,6 +20,5 @@ returns-in-Ok-clause-some g c =
       found = subst (λ l. IfSome d.folders (λ m. map (source_files look.files) l ≡ map (location_files m) stores)) (sym stores_are) opened.found;
       located = located;
       unused = subst (λ l. All (IsUnused state) l) (sym stores_are) opened.unused;
-      kind = ap (λ q. q.kind) c.new.ensures.value;
       given = subst (λ (l : List Location). All (IsKnown e.folder_counts) l) (sym located) opened.known;
     }

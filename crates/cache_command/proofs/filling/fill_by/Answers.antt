@@ -1,30 +1,59 @@
-use Rattle.std.proofs.Common.{refl}
-use Rattle.cache_command.proofs.AskedListings.{alike_on, all_listed}
+use Rattle.std.proofs.Common.{◌≡◌, ◌∙◌, [], ◌∷◌, All, map, refl, subst}
+use Rattle.cache_command.proofs.AskedListings.{alike_on, all_listed, remade_alike, remade_asked}
 use Rattle.cache_command.proofs.CacheFilled.{index_filled}
 use Rattle.cache_command.proofs.filling.fill_by.Goals as goal
+use Rattle.cache_command.specs.Caching.{IndexFilled, of_calls}
 use Rattle.cache_store.specs.Shelves.{shelf_of}
+use Rattle.chunk_store.specs.declared.id.DigestKind.{DigestKind}
 use Rattle.command_steps.proofs.Found.{held_maps}
-use Rattle.command_steps.specs.AnyStores.{source_files}
+use Rattle.command_steps.specs.AnyStores.{said_in, source_faults, source_files}
+
+pub fill-filled-requires-clause-kind : goal.fill-filled-requires-clause-kind
+fill-filled-requires-clause-kind g c κs within = c.remake-filling.ensures.kind ∙ c.kind.ensures
+
+pub fill-filled-requires-clause-kinds : goal.fill-filled-requires-clause-kinds
+fill-filled-requires-clause-kinds g c κs within = subst (λ (k : DigestKind). All (λ x. x.kind ≡ k) c.remake-filling.result.further.items) c.kind.ensures c.remake-filling.ensures.kinds
+
+pub fill-filled-requires-clause-alike : goal.fill-filled-requires-clause-alike
+fill-filled-requires-clause-alike g c κs within =
+    let old = c.args.filling in
+    let now = c.remake-filling.result in
+    (remade_alike _ old.cached.chain now.cached.chain old.further.items now.further.items c.remake-filling.ensures.stores c.remake-filling.ensures.further c.requires.alike).held
 
 pub returns-clause-filled : goal.returns-clause-filled
 returns-clause-filled g c =
     let W = g.W.Look in
     let files = g.L.Look.files in
-    let old = c.args.filling.now.cached in
+    let said = said_in files g.D.Dial.state in
+    let counted = source_faults g.L.Look.faults g.D.Dial.state in
+    let l = c.args.index.now in
+    let made = c.remake-filling.ensures in
+    let old = c.remake-filling.result.cached in
     let new = c.fill-filled.new.cached in
     let over = c.fill-filled.ensures in
-    let filled = index_filled _ (source_files files) c.args.index.now (shelf_of W.files W.place W.faults old.shelf) (shelf_of W.files W.place W.faults new.shelf) old.chain new.chain
-    over.stores (λ fs told. held_maps (source_files files) old.chain.stores fs told) refl c.fill-filled.result over.order over.stocks over.holds over.exactly in
-    (c.fill-filled.result, c.answer_of.ensures, filled)
+    let r = c.fill-filled.result in
+    let filled = index_filled _ (source_files files) l (shelf_of W.files W.place W.faults old.shelf) (shelf_of W.files W.place W.faults new.shelf) old.chain new.chain
+    over.stores (λ fs told. held_maps (source_files files) old.chain.stores fs told) refl r over.order over.stocks over.holds over.exactly in
+    let by_stores = subst (λ xs. IndexFilled (of_calls (source_files files) said counted xs new.chain.stores (W.faults old.shelf.folder) (W.faults new.shelf.folder)) l (W.files old.shelf.folder) (W.files new.shelf.folder) r) made.stores filled in
+    let by_folder = subst (λ f. IndexFilled (of_calls (source_files files) said counted c.args.filling.cached.chain.stores new.chain.stores (W.faults f) (W.faults new.shelf.folder)) l (W.files f) (W.files new.shelf.folder) r) made.folder by_stores in
+    (r, c.answer_of.ensures, by_folder)
 
 pub returns-clause-asks : goal.returns-clause-asks
 returns-clause-asks g c =
-    let old = c.args.filling.now in
+    let first = c.args.filling in
+    let old = c.remake-filling.result in
+    let new = c.fill-filled.new in
+    let made = c.remake-filling.ensures in
     let over = c.fill-filled.ensures in
-    all_listed _ c.args.index.now old.cached.chain c.fill-filled.new.cached.chain old.further.items c.fill-filled.new.further.items over.asks over.stores over.further
+    let listed = all_listed _ c.args.index.now old.cached.chain new.cached.chain old.further.items new.further.items over.asks over.stores over.further in
+    let same : map (λ x. x.stores) (old.cached.chain ∷ old.further.items) ≡ map (λ x. x.stores) (first.cached.chain ∷ first.further.items) = cc (made.stores, made.further) in
+    remade_asked _ (c.args.index.now ∷ []) (first.cached.chain ∷ first.further.items) (old.cached.chain ∷ old.further.items) (new.cached.chain ∷ new.further.items) same listed
 
 pub returns-clause-alike : goal.returns-clause-alike
 returns-clause-alike g c =
-    let old = c.args.filling.now in
+    let first = c.args.filling in
+    let old = c.remake-filling.result in
+    let made = c.remake-filling.ensures in
     let over = c.fill-filled.ensures in
-    alike_on _ c.args.index.now old.cached.chain c.fill-filled.new.cached.chain old.further.items c.fill-filled.new.further.items over.asks.kind over.stores.held over.further c.requires.alike
+    let alike = remade_alike _ first.cached.chain old.cached.chain first.further.items old.further.items made.stores made.further c.requires.alike in
+    alike_on _ c.args.index.now old.cached.chain c.fill-filled.new.cached.chain old.further.items c.fill-filled.new.further.items over.stores.held over.further alike

@@ -8,7 +8,6 @@ use Rattle.cache_store.specs.Shelves.{Shelf, Shelved}
 use Rattle.chunk_sources.specs.Caches.{seen}
 use Rattle.chunk_sources.specs.Wants.{Task}
 use Rattle.chunk_sources.specs.declared.kit.Kit.{Kit}
-use Rattle.chunk_store.specs.declared.id.DigestKind.TheVariants as kinds
 use Rattle.chunk_store.specs.declared.store.Store.{Ghosts as StoreWords}
 use Rattle.command_steps.proofs.Consulted.{reads_twice}
 use Rattle.command_steps.proofs.Dialed.{dials_none}
@@ -146,7 +145,8 @@ pub assemble-ended-requires-clause-kind : goal.assemble-ended-requires-clause-ki
 assemble-ended-requires-clause-kind g c κs within =
     let into = c.into_kits-kits.ensures.kits in
     let more = c.open_kits.new.kits.items in
-    subst (λ l. All (λ q. q.chain.kind ≡ kinds.Sha512T256) l) (sym into.0.first) (All-cons (λ q. q.chain.kind ≡ kinds.Sha512T256) into.0.kit more into.1 (λ n q lt. (c.open_kits.ensures.opened n q lt).kind))
+    subst (λ k. All (λ q. q.chain.kind ≡ k) c.into_kits-kits.result.0.items) c.kind-kind.ensures
+    (subst (λ l. All (λ q. q.chain.kind ≡ c.kind-kind.result) l) (sym into.0.first) (All-cons (λ q. q.chain.kind ≡ c.kind-kind.result) into.0.kit more into.1 c.open_kits.ensures.kinds))
 
 pub assemble-ended-requires-clause-cache : goal.assemble-ended-requires-clause-cache
 assemble-ended-requires-clause-cache g c κs within = rw c.into_kits-kits.ensures.shelf (same_kind g.F.Folder.Look _ c.args.held.shelf c.requires.held.shelf)
@@ -373,7 +373,7 @@ module _ (g : Over) (c : After-of_kits-held g) where
       let held = c.requires.held in
       let others = subst (λ (n : List Location). AreOpened g.F.Look.Look g.F.View.View state b0 b n images more) names_are (rw c.as_slice-names.ensures at c.open_kits.ensures.opened) in
       let gone = gone_seen e0 c.args.held.cache d'.folders cache_is held.gone in
-      opened_kits g.F.Look.Look g.F.View.View state e0 d' b0 b c.in-Ok.ensures.kept c.open_kits.ensures.kept images c.args.held.stores.items c.in-Ok.seeds.items k more into.0.stores_are into.0.seeds_are into.1
+      opened_kits g.F.Look.Look g.F.View.View state e0 d' b0 b c.in-Ok.ensures.kept c.open_kits.ensures.kept images c.args.held.stores.items c.in-Ok.seeds.items k more into.0.stores_are into.0.seeds_are
       held.found held.fresh held.unused held.lent.stores (rw c.as_slice-names.ensures at c.in-Ok.ensures.found) c.in-Ok.ensures.fresh c.in-Ok.ensures.known gone (looks_tell g c.args.files.now) others
 
   -- what is held can be given back

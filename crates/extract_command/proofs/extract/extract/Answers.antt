@@ -46,7 +46,7 @@ pub assemble_into-requires-clause-workers : goal.assemble_into-requires-clause-w
 assemble_into-requires-clause-workers g c κs within = rw (c.in-Ok.ensures.size) c.worker_count-workers.ensures
 
 pub assemble_into-requires-clause-held : goal.assemble_into-requires-clause-held
-assemble_into-requires-clause-held g c κs within = rw (c.in-Ok.ensures.size) c.in-Ok-reach.ensures.fresh
+assemble_into-requires-clause-held g c κs within = rw (c.in-Ok.ensures.size) (rw c.kind-kind.ensures at c.in-Ok-reach.ensures.fresh)
 
 pub assemble_beside-requires-clause-located : goal.assemble_beside-requires-clause-located
 assemble_beside-requires-clause-located g c κs within = rw c.as_slice-stores.ensures at c.in-Ok-reach.ensures.located
@@ -55,7 +55,7 @@ pub assemble_beside-requires-clause-workers : goal.assemble_beside-requires-clau
 assemble_beside-requires-clause-workers g c κs within = rw (c.in-Ok.ensures.size) c.worker_count-workers.ensures
 
 pub assemble_beside-requires-clause-held : goal.assemble_beside-requires-clause-held
-assemble_beside-requires-clause-held g c κs within = rw (c.in-Ok.ensures.size) c.in-Ok-reach.ensures.fresh
+assemble_beside-requires-clause-held g c κs within = rw (c.in-Ok.ensures.size) (rw c.kind-kind.ensures at c.in-Ok-reach.ensures.fresh)
 
 pub assemble_beside-requires-clause-plan : goal.assemble_beside-requires-clause-plan
 assemble_beside-requires-clause-plan g c κs within =

@@ -4,7 +4,7 @@ use Rattle.extract_command.proofs.held.into_kits.Goals as goal
 
 pub returns-clause-kits : goal.returns-clause-kits
 returns-clause-kits g c =
-    let chain = c.new-kit.ensures.chain ∙ c.new.ensures.value in (
+    let chain = c.new-kit.ensures.chain ∙ c.with_kind.ensures.value in (
       record {
         kit = c.new-kit.result;
         first = put_first c.args.held.kits.items c.insert.new.self.items c.new-kit.result c.insert.result c.unwrap.result c.unwrap.ensures c.insert.ensures.items;

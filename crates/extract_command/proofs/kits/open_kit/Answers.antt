@@ -25,17 +25,16 @@ returns-in-Ok-open_seeds-clause-some g c =
     let images = map image_name c.args.seeds.now in
     let opened = c.in-Ok.ensures in
     let seeded = c.in-Ok-open_seeds.ensures in
-    let k = c.new-in-Ok-open_seeds.result in
-    let chain = c.new-in-Ok-open_seeds.ensures.chain ∙ c.new.ensures.value in
+    let k = c.new.result in
+    let chain = c.new.ensures.chain ∙ c.with_kind.ensures.value in
     let stores_are : k.chain.stores ≡ c.in-Ok.stores.items = ap (λ q. q.stores) chain in
-    let seeds_are = c.new-in-Ok-open_seeds.ensures.seeds in
+    let seeds_are = c.new.ensures.seeds in
     let located : map (location_in look.place) k.chain.stores ≡ stores = ap (map (location_in look.place)) stores_are ∙ opened.located in
     record {
       found = subst (λ l. IfSome d.folders (λ m. map (source_files look.files) l ≡ map (location_files m) stores)) (sym stores_are) opened.found;
       located = located;
       fresh = subst (λ l. map (source_faults look.faults state) l ≡ map {B = ℕ} (λ q. 0) stores) (sym stores_are) opened.fresh;
       unused = subst (λ l. All (IsUnused state) l) (sym stores_are) opened.unused;
-      kind = ap (λ q. q.kind) chain;
       viewed = views_over d m e e opened.kept (reads_none e) images (map (seed_held view.held) k.seeds.items) (subst (λ v. AllZip (IsViewed m e) images (map (seed_held view.held) v.items)) (sym seeds_are) seeded.found);
       unfailed = subst (λ v. map (faults_in view.faults) v.items ≡ map {B = ℕ} (λ s. 0) v.items) (sym seeds_are) seeded.fresh;
       given = record {
@@ -43,6 +42,9 @@ returns-in-Ok-open_seeds-clause-some g c =
         seeds = subst (λ v. SeedsKnown view.held e.file_counts v.items) (sym seeds_are) seeded.known;
       };
     }
+
+pub returns-in-Ok-open_seeds-clause-kind : goal.returns-in-Ok-open_seeds-clause-kind
+returns-in-Ok-open_seeds-clause-kind g c = ap (λ q. q.kind) (c.new.ensures.chain ∙ c.with_kind.ensures.value)
 
 pub returns-in-Ok-open_seeds-clause-kept : goal.returns-in-Ok-open_seeds-clause-kept
 returns-in-Ok-open_seeds-clause-kept g c =

@@ -1,4 +1,4 @@
-use Rattle.std.proofs.Common.{arith, map}
+use Rattle.std.proofs.Common.{◌≡◌, arith, map}
 use Rattle.command_steps.proofs.Consulted.{reads_none, reads_twice}
 use Rattle.command_steps.proofs.Used.{all_more, uses_none, uses_twice}
 use Rattle.command_steps.specs.Seeds.{image_name}
@@ -13,6 +13,7 @@ loop-opened-init g c =
     let d = g.F.Files.disk c.args.files.now in
     record {
       opened = λ n k lt. absurd (omega (arith, lt, c.args.kits.now.ok.0, c.requires.room.0));
+      kinds = λ n k lt. absurd (omega (arith, lt, c.args.kits.now.ok.0, c.requires.room.0));
       few = omega (arith, c.requires.room.0);
       counted = c.requires.some;
       room = c.requires.room.1;
@@ -44,6 +45,7 @@ loop-opened-preserved g c =
       opened = all_more (IsKitOpened look view state d e stores images) old new c.in-Some.kit is
           (all_opened_over look view state d d b e (reads_none d) c.in-Some.ensures.kept stores images old inv.opened)
           (opened_over look view state d b e e inv.reads (reads_none e) stores images c.in-Some.kit c.in-Some.ensures.some);
+      kinds = all_more (λ k. k.chain.kind ≡ c.args.kind) old new c.in-Some.kit is inv.kinds c.in-Some.ensures.kind;
       few = omega (arith, inv.few, c.push.ensures.upper_bound);
       counted = omega (arith, c.loop-opened-test.true);
       room = omega (arith, inv.room, c.push.ensures.capacity);
@@ -65,6 +67,7 @@ returns-in_default g c =
     let images = map image_name c.args.seeds.now in
     record {
       opened = all_opened_over look view state d d b e (reads_none d) c.in_default.ensures.kept stores images c.loop-opened.kits.items inv.opened;
+      kinds = inv.kinds;
       few = omega (arith, inv.few, inv.counted);
       room = omega (arith, inv.few, inv.counted, inv.room);
       kept = reads_twice d b e inv.reads c.in_default.ensures.kept;

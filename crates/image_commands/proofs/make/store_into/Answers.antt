@@ -54,7 +54,8 @@ returns g c =
     let counts = g.F.Folder.Look.faults in
     let state = g.D.Dial.state in
     let at = g.F.Files.disk in
-    let s = c.args.sizes.now in
+    let kind = c.args.by.now.digest in
+    let s = c.args.by.now.sizes in
     let store = c.args.store.now in
     let held = g.F.View.View.held in
     let faults = g.F.View.View.faults in
@@ -81,20 +82,20 @@ returns g c =
     let done = c.store_image-views.ensures in
     let there = stands_there place old new done.place ∙ took.located in
     let ended = λ (q : List ℕ) (told : Option (List ℕ)) (are : AreOf q told (map held xs)) (p : Output).
-    let holds = made_as (λ b. b.items) s told r before after (exactly_of held xs q told some are s (λ b. b.items) (option_map chunks before) (option_map chunks after) r done.exactly)
-    (files_of held xs q told some are s (option_map chunks before) before after done.files) in
-    stored_into store s q told before k j p a d e (seen_as (λ b. b.items) (answer_of_storing r)) (taken_beside [] (q ∷ []) store a d _ (within_none (q ∷ [])) took.ok)
-    (stored_ended s q told store before w v (λ b. b.items) r (new ≡ old)
+    let holds = made_as (λ b. b.items) kind s told r before after (exactly_of held xs q told some are kind s (λ b. b.items) (option_map chunks before) (option_map chunks after) r done.exactly)
+    (files_of held xs q told some are kind s (option_map chunks before) before after done.files) in
+    stored_into store kind s q told before k j p a d e (seen_as (λ b. b.items) (answer_of_storing r)) (taken_beside [] (q ∷ []) store a d _ (within_none (q ∷ [])) took.ok)
+    (stored_ended kind s q told store before w v (λ b. b.items) r (new ≡ old)
     (of_first held xs q told some are (λ o. IfSome o (λ t. HasTooManyCuts s t → IsErrAnd r IsOfCutting × (new ≡ old))) done.many)
-    (cause_of (λ b. b.items) held xs q told some are s r done.cause)
-    (back files place counts state w v store old new done.place took.located gave.folders gave.given (MadeOf s told (seen_as (λ b. b.items) r)) (SaidAfter s told (seen_as (λ b. b.items) r)) (said_more s told (seen_as (λ b. b.items) r)) done.tells holds (said_after (λ b. b.items) held xs q told some are s r (said_in files state new) done.said))
-    (λ is. back files place counts state w v store old new done.place took.located gave.folders gave.given (λ f g. (g ≡ f) × MadeOf s told (seen_as (λ b. b.items) r) f g) AnySaid (λ a b keeps says. tt) done.tells (unmade s told (seen_as (λ b. b.items) r) before after (ap (source_files files) (done.untouched is)) holds) tt)
+    (cause_of (λ b. b.items) held xs q told some are kind s r done.cause)
+    (back files place counts state w v store old new done.place took.located gave.folders gave.given (MadeOf kind s told (seen_as (λ b. b.items) r)) (SaidAfter kind s told (seen_as (λ b. b.items) r)) (said_more kind s told (seen_as (λ b. b.items) r)) done.tells holds (said_after (λ b. b.items) held xs q told some are kind s r (said_in files state new) done.said))
+    (λ is. back files place counts state w v store old new done.place took.located gave.folders gave.given (λ f g. (g ≡ f) × MadeOf kind s told (seen_as (λ b. b.items) r) f g) AnySaid (λ a b keeps says. tt) done.tells (unmade kind s told (seen_as (λ b. b.items) r) before after (ap (source_files files) (done.untouched is)) holds) tt)
     (λ is. first_rose held faults d e xs ys q told some done.kept are c.requires.fresh added (done.image_faults.first.cause is))
     (λ is. rose files place counts state w v store old new done.place took.located gave.folders gave.given took.fresh (done.store_faults.cause is))
     (wrote_alone store w v q told (map held xs) (map held ys) done.kept are gave.kept)
-    (gets_image place state s told old new store w.dial.ended v.dial.ended took.unused there
-    (of_first held xs q told some are (λ o. SendsOf s o (asked_in method.Get state old) (asked_in method.Get state new) (source_sent state old) (source_sent state new)) done.sends) done.queries give.ended)) in
+    (gets_image place state kind s told old new store w.dial.ended v.dial.ended took.unused there
+    (of_first held xs q told some are (λ o. SendsOf kind s o (asked_in method.Get state old) (asked_in method.Get state new) (source_sent state old) (source_sent state new)) done.sends) done.queries give.ended)) in
     rw c.answer_of.ensures (record {
-      ok = if_stored (λ b. b.items) (λ q told. AreOf q told (map held xs)) (λ q told x. (p : Output) → StoredInto store s q told (world a k p) x (world e j p)) (answer_of_storing r) ended;
-      err = if_unstored (λ b. b.items) (λ q told. AreOf q told (map held xs)) (λ q told x. (p : Output) → StoredInto store s q told (world a k p) x (world e j p)) (answer_of_storing r) ended;
+      ok = if_stored (λ b. b.items) (λ q told. AreOf q told (map held xs)) (λ q told x. (p : Output) → StoredInto store kind s q told (world a k p) x (world e j p)) (answer_of_storing r) ended;
+      err = if_unstored (λ b. b.items) (λ q told. AreOf q told (map held xs)) (λ q told x. (p : Output) → StoredInto store kind s q told (world a k p) x (world e j p)) (answer_of_storing r) ended;
     })
