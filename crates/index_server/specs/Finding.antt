@@ -1,0 +1,28 @@
+-- How the file of an index is found, and how a request is answered by it.
+use Rattle.std.specs.Prelude.{◌≡◌, ℕ, List, Option, IfOk, IfSome, Result}
+use Rattle.chunk_store.specs.Causes.{CountsCause}
+use Rattle.dsy_base.specs.declared.fault.IoFault.{IoFault}
+use Rattle.dsy_base.specs.declared.fault.IoFault.TheVariants as io
+use Rattle.http_serve.specs.Answers.{Answer}
+use Rattle.http_wire.specs.declared.index_request.IndexAct.{IndexAct}
+use Rattle.http_wire.specs.declared.index_request.IndexAct.TheVariants as act
+use Rattle.index_server.specs.Answers.{IndexFolder, index_held, with_index, with_index_length}
+use Rattle.index_server.specs.declared.state.ReadMethod.{ReadMethod}
+use Rattle.index_server.specs.declared.state.ReadMethod.TheVariants as method
+
+-- the index of this name was looked for, while the folder came from one state to the other
+pub record FindsFile (name : List ℕ) (old : IndexFolder) (found : Result (Option (List ℕ)) IoFault)
+    (new : IndexFolder) : Type 0 where
+  pub held : IfOk found (λ o. IfSome old.files (λ m. o ≡ index_held (m name)))
+  pub kept : new.files ≡ old.files
+  pub faults : CountsCause io.Failed old.faults new.faults found
+
+-- what is asked for by this method
+abbrev pub index_asked_by : ReadMethod → List ℕ → IndexAct
+index_asked_by method.Get name = act.Get name
+index_asked_by method.Head name = act.Head name
+
+-- and how it is answered, where an index is held or none
+abbrev pub index_answer_by : ReadMethod → Option (List ℕ) → Answer
+index_answer_by method.Get held = with_index held
+index_answer_by method.Head held = with_index_length held

@@ -1,0 +1,154 @@
+//! The files of indexes. Sizes are in bytes.
+
+ghost use Rattle.std.specs.Prelude.{◌≡◌, ◌<◌, ◌≤◌, length, true, Err, IfOk, IfSome, OnOk, Some};
+ghost use Rattle.caibx_fields.specs.Limits.{file_limit};
+ghost use Rattle.chunk_store.specs.Causes.{CountsCause};
+ghost use Rattle.dsy_base.specs.Maps.{ReadGives};
+ghost use Rattle.index_server.specs.Answers.{IsSpelled, index_held, is_index, index_folder};
+ghost use Rattle.index_server.specs.Finding.{FindsFile};
+
+use caibx_codec::laws::fault_stays;
+use caibx_codec::reader::IndexReader;
+use caibx_codec::reading::ReadFault;
+use caibx_fields::format::FILE_LIMIT;
+use dsy_base::fault::{FileFault, IoFault, Memory};
+use dsy_base::look::Look;
+use std::alloc::{AllocError, Global};
+use std::marker::Model;
+
+/// How many bytes of a file are read at first: 256 KiB, which is an index of 6,500 chunks.
+const FIRST_READ: usize = 262_144;
+
+// Makes the buffer longer, at least twice as long where it may be.
+fn grow(buffer: &mut Vec<u8>) -> Result<(), AllocError>
+    requires room { length buffer.old.items < file_limit }
+    ensures ok { OnOk result (length buffer.old.items < length buffer.new.items) }
+    ensures room { length buffer.new.items ≤ file_limit }
+{
+    let size = (buffer.len() * 2).max(FIRST_READ).min(FILE_LIMIT as usize);
+    buffer.resize(size, 0)
+}
+
+// Reads the file of this name to the front of the buffer, which becomes as long as is needed. `Longer`: it has more
+// bytes than the longest index file.
+fn read_whole<F: Look>(folder: &mut F, name: &str, buffer: &mut Vec<u8>) -> Result<usize, FileFault>
+    requires room { length buffer.old.items ≤ file_limit }
+    ensures room { length buffer.new.items ≤ file_limit }
+    ensures bytes { IfSome (F.files folder.old) (λ m. ReadGives (m name.now) result buffer.new.items) }
+    ensures ok { IfOk result (λ n. n ≤ length buffer.new.items) }
+    ensures longer { result ≡ Err FileFault.Longer → length buffer.new.items ≡ file_limit }
+    ensures kept { F.files folder.new ≡ F.files folder.old }
+    ensures place { F.place folder.new ≡ F.place folder.old }
+    ensures faults { CountsCause FileFault.Failed (F.faults folder.old) (F.faults folder.new) result }
+{
+    while buffer.len() < FILE_LIMIT as usize {
+        match folder.read(name, buffer.as_mut_slice()) {
+            Err(FileFault::Longer) => {}
+            answer => return answer,
+        }
+        match grow(buffer) {
+            Ok(()) => {}
+            Err(_) => return Err(FileFault::Memory),
+        }
+    }
+    folder.read(name, buffer.as_mut_slice())
+}
+
+// Whether the bytes that were fed are the file of a valid index.
+fn is_whole_index(reader: IndexReader) -> Result<bool, Memory>
+    ensures value { IfSome reader (λ b. IfOk result (λ t. t ≡ is_index b)) }
+    ensures exactly { IfSome reader (λ b. IfOk result (λ t. IsSpelled t b)) }
+{
+    match reader.finish() {
+        Ok(_) => Ok(true),
+        Err(ReadFault::Bad(_)) => Ok(false),
+        Err(ReadFault::Over | ReadFault::Memory) => Err(Memory),
+    }
+}
+
+/// Whether the bytes are the file of a valid index.
+pub(crate) fn is_index(alloc: Global, bytes: &[u8]) -> Result<bool, Memory>
+    ensures value { IfOk result (λ t. t ≡ is_index bytes.now) }
+    ensures exactly { IfOk result (λ t. IsSpelled t bytes.now) }
+{
+    fault_stays();
+    let mut reader = IndexReader::new(alloc);
+    match reader.feed(bytes) {
+        Ok(()) => is_whole_index(reader),
+        Err(ReadFault::Bad(_)) => Ok(false),
+        Err(ReadFault::Over | ReadFault::Memory) => Err(Memory),
+    }
+}
+
+/// The file of a valid index, which contracts see as its bytes.
+#[derive(Drop)]
+pub(crate) struct IndexFile {
+    bytes: Vec<u8>,
+}
+
+impl Model for IndexFile {
+    ghost use Rattle.std.specs.Prelude.{ℕ, List, true};
+    ghost use Rattle.index_server.specs.Answers.{IsSpelled};
+
+    ghost Value = { List ℕ };
+
+    ghost view = { λ f. f.bytes.items };
+
+    ghost invariant = { λ f. IsSpelled true f.bytes.items };
+}
+
+impl IndexFile {
+    // These bytes, if they are the file of a valid index.
+    fn of(alloc: Global, bytes: Vec<u8>) -> Result<Option<IndexFile>, IoFault>
+        requires size { length bytes.items ≤ file_limit }
+        ensures value { IfOk result (λ o. o ≡ index_held (Some bytes.items)) }
+        ensures only { result ≡ Err IoFault.Failed → ⊥ }
+    {
+        match is_index(alloc, bytes.as_slice()) {
+            Ok(true) => Ok(Some(IndexFile { bytes })),
+            Ok(false) => Ok(None),
+            Err(_) => Err(IoFault::Memory),
+        }
+    }
+
+    /// The file of this name, if it is one of a valid index.
+    pub(crate) fn read<F: Look>(
+        alloc: Global,
+        folder: &mut F,
+        name: &str,
+    ) -> Result<Option<IndexFile>, IoFault>
+        ensures found { FindsFile name.now (index_folder F.files F.faults folder.old) result
+            (index_folder F.files F.faults folder.new) }
+        ensures place { F.place folder.new ≡ F.place folder.old }
+    {
+        let mut bytes = Vec::new(alloc);
+        match read_whole(folder, name, &mut bytes) {
+            Ok(n) => {
+                bytes.truncate(n);
+                IndexFile::of(alloc, bytes)
+            }
+            Err(FileFault::Absent | FileFault::Longer) => Ok(None),
+            Err(FileFault::Failed) => Err(IoFault::Failed),
+            Err(FileFault::Memory) => Err(IoFault::Memory),
+        }
+    }
+
+    /// It is the file of a valid index.
+    pub(crate) fn spelled(&self)
+        ensures value { IsSpelled true self.now }
+    {
+        let _ = &self.bytes;
+    }
+
+    pub(crate) fn len(&self) -> usize
+        ensures { result ≡ length self.now }
+    {
+        self.bytes.len()
+    }
+
+    pub(crate) fn into_bytes(self) -> Vec<u8>
+        ensures { result.items ≡ self }
+    {
+        self.bytes
+    }
+}
