@@ -80,10 +80,17 @@ def several_workers(cases):
             expect_ended(ended, out=text_of(figures_of(7, 700000)))
 
 
+def other_digest(cases):
+    for number, size in [(7, 0), (7, 1), (7, 700000)]:
+        with cases.case(f'demo {number} {size} prints the same figures by SHA-256') as folder:
+            ended = program.run(['demo', '--digest', 'sha256', str(number), str(size)], folder)
+            expect_ended(ended, out=text_of(figures_of(number, size)))
+
+
 def main():
     needs_program('demo')
     cases = Cases('demo')
-    for group in (examples, reckoned, large, several_workers):
+    for group in (examples, reckoned, large, several_workers, other_digest):
         group(cases)
     return cases.end()
 
