@@ -1,6 +1,6 @@
 //! The fields of an index file in their order, and how each of its words is judged.
 
-ghost use Rattle.std.specs.Prelude.{◌≡◌, ◌≤◌, ◌==◌, nat_le, nat_lt, if◌then◌else◌};
+ghost use Rattle.std.specs.Prelude.{◌≡◌, ◌≤◌, ◌==◌, nat_le, nat_lt, if◌then◌else◌, Ok};
 ghost use Rattle.caibx_fields.specs.Fields.{need, place_of, word_at, end_judged};
 ghost use Rattle.caibx_fields.specs.Limits.{size_limit, item_limit};
 
@@ -125,6 +125,17 @@ fn expect(
     }
 }
 
+// Any flags are taken: they say which digest names the chunks.
+fn keep_flags(fields: Fields, word: u64) -> Result<Fields, IndexFault>
+    ensures { result ≡ Ok (record fields { next = Field.Min; flags = word }) }
+{
+    Ok(Fields {
+        next: Field::Min,
+        flags: word,
+        ..fields
+    })
+}
+
 // The greatest size must be within the limit.
 fn judge_max(fields: Fields, word: u64) -> Result<Fields, IndexFault>
     ensures { result ≡ (if nat_lt size_limit word then Err (IndexFault.MaxSize word)
@@ -148,11 +159,7 @@ pub fn judge_word(fields: Fields, count: usize, word: u64) -> Result<Fields, Ind
     match fields.next {
         Field::HeadSize => expect(fields, word, HEAD_SIZE, Field::HeadType, IndexFault::Head),
         Field::HeadType => expect(fields, word, HEAD_TYPE, Field::Flags, IndexFault::Head),
-        Field::Flags => Ok(Fields {
-            next: Field::Min,
-            flags: word,
-            ..fields
-        }),
+        Field::Flags => keep_flags(fields, word),
         Field::Min => Ok(Fields {
             next: Field::Avg,
             min: word,
