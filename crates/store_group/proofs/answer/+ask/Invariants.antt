@@ -1,0 +1,5 @@
+use Rattle.std.proofs.Common.{ℕ}
+use Rattle.store_group.proofs.answer.+ask.Given as goal
+
+abbrev pub decreases-ask : goal.decreases-ask
+decreases-ask g l = l.retries

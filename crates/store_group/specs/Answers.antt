@@ -1,0 +1,85 @@
+-- What a store answers to one question, which may be asked several times, and what that leaves of the store.
+use Rattle.std.specs.Prelude.{◌≡◌, ◌≢◌, ℕ, zero, suc, ◌+◌, ◌<◌, ◌≤◌, List, [], ◌∷◌, length, take, false, Some, None}
+use Rattle.std.specs.Prelude.{IfSome, IsTrue, is_some, Bool, Result, Ok, Err}
+use Rattle.chunk_store.specs.Asks.{Ask, Get, Has, Sends}
+use Rattle.chunk_store.specs.Said.{KeepsOf}
+use Rattle.chunk_store.specs.declared.store.GetFault.{GetFault}
+use Rattle.chunk_store.specs.declared.store.GetFault.TheVariants as get
+use Rattle.chunk_store.specs.declared.store.Store.{Ghosts as StoreWords}
+use Rattle.dsy_base.specs.declared.fault.IoFault.{IoFault}
+use Rattle.dsy_base.specs.declared.fault.IoFault.TheVariants as io
+use Rattle.store_group.specs.declared.answer.Answer.{Answer}
+use Rattle.store_group.specs.declared.answer.Answer.TheVariants as answer
+use Rattle.store_group.specs.declared.answer.Question.{Question}
+use Rattle.store_group.specs.declared.answer.Question.TheVariants as question
+
+-- what the answers of a store are
+abbrev pub answer_to_get : Result ℕ GetFault → Answer
+answer_to_get (Ok n) = answer.Given n
+answer_to_get (Err get.Missing) = answer.Missing
+answer_to_get (Err get.Longer) = answer.Longer
+answer_to_get (Err get.Failed) = answer.Failed
+answer_to_get (Err get.Memory) = answer.Memory
+
+abbrev pub answer_to_has : Result Bool IoFault → Answer
+answer_to_has (Ok has) = answer.There has
+answer_to_has (Err io.Failed) = answer.Failed
+answer_to_has (Err io.Memory) = answer.Memory
+
+-- the answer is one to this question
+abbrev pub IsAbout : Answer → Question → Type 0
+IsAbout (answer.There has) question.Get = ⊥
+IsAbout (answer.Given n) question.Has = ⊥
+IsAbout answer.Missing question.Has = ⊥
+IsAbout answer.Longer question.Has = ⊥
+IsAbout a q = Unit {0}
+
+-- what is asked for an id
+abbrev pub ask_for : Question → List ℕ → Ask
+ask_for question.Get id = Get id
+ask_for question.Has id = Has id
+
+module _ {S : Type 0} (store : StoreWords S) where
+  -- how often the store was asked this question for each id, and how often the other one
+  abbrev pub times_asked : Question → S → List ℕ → ℕ
+  times_asked question.Get = store.asked
+  times_asked question.Has = store.queried
+
+  abbrev pub times_else : Question → S → List ℕ → ℕ
+  times_else question.Get = store.queried
+  times_else question.Has = store.asked
+
+  -- the store was asked the question for the id at most n times, and for nothing else
+  pub record AskedUpTo (q : Question) (n : ℕ) (id : List ℕ) (s t : S) : Type 0 where
+    pub holds : store.holds t ≡ store.holds s
+    pub folder : store.folder t ≡ store.folder s
+    pub place : store.place t ≡ store.place s
+    pub said : (x : List ℕ) → KeepsOf (store.said s) (store.said t) x
+    pub sends : Sends (λ a. a ≡ ask_for q id) (store.sent s) (store.sent t)
+    pub this : times_asked q t id ≤ times_asked q s id + n
+    pub no_less : times_asked q s id ≤ times_asked q t id
+    pub others : (x : List ℕ) → x ≢ id → times_asked q t x ≡ times_asked q s x
+    pub stays : times_else q t ≡ times_else q s
+    pub faults : store.faults s ≤ store.faults t
+
+  -- what the store's answer says of it, s before and t after it, where the buffer then holds `out`
+  abbrev pub Says : Question → List ℕ → S → S → List ℕ → Answer → Type 0
+  Says question.Get id s t out (answer.Given n) = (n ≤ length out) × (store.said t).shown id (take n out)
+      × IfSome (store.holds s) (λ m. m id ≡ Some (take n out))
+  Says question.Get id s t out answer.Missing = (store.said t).denied id × IfSome (store.holds s) (λ m. m id ≡ None)
+  Says question.Get id s t out answer.Longer = (store.said t).longer id (length out)
+      × IfSome (store.holds s) (λ m. (b : List ℕ) × (m id ≡ Some b) × (length out < length b))
+  Says question.Get id s t out (answer.There has) = ⊥
+  Says question.Has id s t out (answer.There has) = (has ≡ false → (store.said t).denied id)
+      × IfSome (store.holds s) (λ m. has ≡ is_some (m id))
+  Says question.Has id s t out (answer.Given n) = ⊥
+  Says question.Has id s t out answer.Missing = ⊥
+  Says question.Has id s t out answer.Longer = ⊥
+  Says q id s t out answer.Failed = Unit {0}
+  Says q id s t out answer.Memory = IsTrue store.may_lack_memory
+
+  -- the store of number k answered so, and didn't fail
+  abbrev pub AnswersAt : Question → List ℕ → ℕ → List S → List S → List ℕ → Answer → Type 0
+  AnswersAt q id zero (s ∷ old) (t ∷ new) out a = Says q id s t out a × (a ≢ answer.Failed)
+  AnswersAt q id (suc k) (s ∷ old) (t ∷ new) out a = AnswersAt q id k old new out a
+  AnswersAt q id k old new out a = ⊥
