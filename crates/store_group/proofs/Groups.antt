@@ -1,13 +1,14 @@
 -- What a group keeps and counts as one store.
-use Rattle.std.proofs.Common.{◌≡◌, ◌≢◌, ◌⊎◌, inl, inr, ℕ, zero, suc, ◌+◌, ◌*◌, ◌/◌, ◌≤◌, ◌<◌, List, [], ◌∷◌, ◌++◌, length, max, Option, Some, None, IfSome, IsTrue, is_some, take, refl, sym, subst, ap, ◌∙◌, arith}
+use Rattle.std.proofs.Common.{◌≡◌, ◌≢◌, ◌⊎◌, inl, inr, ℕ, zero, suc, ◌+◌, ◌*◌, ◌/◌, ◌≤◌, ◌<◌, List, [], ◌∷◌, ◌++◌, length, max, Option, Some, None, IfSome, IsTrue, is_some, take, drop, refl, sym, subst, ap, ◌∙◌, arith}
 use Rattle.std.specs.List.{AllByRecursion, AllZip}
 use Rattle.std.proofs.Math.Nat.{add-div_right, add-mul, div-mul-le_self, mod-lt, mul-le-mul_right}
+use Rattle.std.proofs.Math.Seq.{drop-append_seam, take-append_seam}
 use Rattle.std.proofs.lemmas.Nat.{div-add-mod', le-div}
 use Rattle.chunk_store.specs.Asks.{Sent, Sends}
 use Rattle.chunk_store.specs.Said.{Said, AskedOnce, KeepsOf}
 use Rattle.chunk_store.specs.declared.store.Store.{Ghosts as StoreWords}
 use Rattle.dsy_base.specs.Counts.{raised}
-use Rattle.store_group.specs.Answers.{AnswersAt, AskedUpTo, Says, ask_for, times_asked, times_else}
+use Rattle.store_group.specs.Answers.{AnswersAt, AnswersFirst, AnswersRound, AskedUpTo, FailsAll, Says, ask_for, times_asked, times_else}
 use Rattle.store_group.specs.Groups.{CountsFailures, Grouped, as_store, SomeStore, asked_of, most, of_one, questions_of, place_of, said_of, sent_of}
 use Rattle.store_group.specs.declared.answer.Answer.{Answer}
 use Rattle.store_group.specs.declared.answer.Answer.TheVariants as answer
@@ -89,6 +90,48 @@ module _ {S : Type 0} (store : StoreWords S) (q : Question) (id : List ℕ) (out
       → IfSome o (λ p. AnswersAt store q id p.0 old xs out p.1) → IfSome o (λ p. AnswersAt store q id p.0 whole (xs ++ ys) out p.1)
   answers_first o whole old bs xs ys is h =
       subst (λ (l : List S). IfSome o (λ p. AnswersAt store q id p.0 l (xs ++ ys) out p.1)) (sym is) (may_answer_before o old bs xs ys h)
+
+  -- the first that didn't fail answered
+  pub first_at : (r : ℕ) (a : Answer) (k : ℕ) (old xs : List S) → AnswersFirst store q r id k old xs out a → AnswersAt store q id k old xs out a
+  first_at r a zero [] xs h = absurd h
+  first_at r a (suc k) [] xs h = absurd h
+  first_at r a zero (s ∷ old) [] h = absurd h
+  first_at r a (suc k) (s ∷ old) [] h = absurd h
+  first_at r a zero (s ∷ old) (x ∷ xs) h = (h.0, h.1)
+  first_at r a (suc k) (s ∷ old) (x ∷ xs) h = first_at r a k old xs h.1
+
+-- ---- a round, in two parts of a slice
+
+module _ {S : Type 0} (store : StoreWords S) (q : Question) (r : ℕ) (id : List ℕ) (out : List ℕ) where
+  take_front : (n : ℕ) (whole old bs : List S) → whole ≡ old ++ bs → length old ≡ n → take n whole ≡ old
+  take_front n whole old bs is size = ap (λ (l : List S). take n l) is ∙ ap (λ (m : ℕ). take m (old ++ bs)) (sym size) ∙ take-append_seam old bs
+
+  drop_front : (n : ℕ) (whole old bs : List S) → whole ≡ old ++ bs → length old ≡ n → drop n whole ≡ bs
+  drop_front n whole old bs is size = ap (λ (l : List S). drop n l) is ∙ ap (λ (m : ℕ). drop m (old ++ bs)) (sym size) ∙ drop-append_seam old bs
+
+  -- one of the second part answered
+  pub round_second : (a : Answer) (active k n : ℕ) (whole old bs ys : List S) → whole ≡ old ++ bs → length old ≡ active → n ≡ active + k
+      → AnswersFirst store q r id k bs ys out a → AnswersRound store q r id active n whole (old ++ ys) out a
+  round_second a active k n whole old bs ys is size number first =
+      inl (k, number, take_front active (old ++ ys) old ys refl size ∙ sym (take_front active whole old bs is size),
+        subst (λ (l : List S). AnswersFirst store q r id k l (drop active (old ++ ys)) out a) (sym (drop_front active whole old bs is size))
+          (subst (λ (l : List S). AnswersFirst store q r id k bs l out a) (sym (drop_front active (old ++ ys) old ys refl size)) first))
+
+  -- all of the second part failed, and one of the first part answered
+  pub round_first : (active : ℕ) (o : Option (ℕ × Answer)) (whole old bs xs ys : List S) → whole ≡ old ++ bs → length old ≡ active → length xs ≡ active
+      → AllZip (FailsAll store r) bs ys → IfSome o (λ p. AnswersFirst store q r id p.0 old xs out p.1)
+      → IfSome o (λ p. AnswersRound store q r id active p.0 whole (xs ++ ys) out p.1)
+  round_first active None whole old bs xs ys is size same failed h = tt
+  round_first active (Some p) whole old bs xs ys is size same failed h =
+      inr (subst (λ (l : List S). AllZip (FailsAll store r) l (drop active (xs ++ ys))) (sym (drop_front active whole old bs is size))
+          (subst (λ (l : List S). AllZip (FailsAll store r) bs l) (sym (drop_front active (xs ++ ys) xs ys refl same)) failed),
+        subst (λ (l : List S). AnswersFirst store q r id p.0 l (take active (xs ++ ys)) out p.1) (sym (take_front active whole old bs is size))
+          (subst (λ (l : List S). AnswersFirst store q r id p.0 old l out p.1) (sym (take_front active (xs ++ ys) xs ys refl same)) h))
+
+  -- what the first that didn't fail answered
+  pub may_first : (o : Option (ℕ × Answer)) (old xs : List S) → IfSome o (λ p. AnswersFirst store q r id p.0 old xs out p.1) → IfSome o (λ p. AnswersAt store q id p.0 old xs out p.1)
+  may_first None old xs h = tt
+  may_first (Some p) old xs h = first_at store q id out r p.1 p.0 old xs h
 
 -- ---- what stays
 
@@ -198,7 +241,7 @@ module _ {S : Type 0} (store : StoreWords S) (q : Question) (r : ℕ) (id : List
       let next = add-mul failed 1 (r + 1) in
       omega (arith, counted, rose, few, next)
 
-  pub failures_more : (failed : ℕ) (old xs : List S) → AllZip (λ s t. raised (store.faults s) (r + 1) ≤ store.faults t) old xs
+  pub failures_more : (failed : ℕ) (old xs : List S) → AllZip (FailsAll store r) old xs
       → AllByRecursion (λ s. raised 0 (failed * (r + 1)) ≤ store.faults s) old → AllByRecursion (λ s. raised 0 (raised failed 1 * (r + 1)) ≤ store.faults s) xs
   failures_more failed [] [] h all = tt
   failures_more failed [] (x ∷ xs) h all = absurd h
@@ -264,6 +307,7 @@ module _ {S : Type 0} (store : StoreWords S) (id : List ℕ) (g h : Grouped S) (
         others = asked.others;
         stays = sym (again store.queried) ∙ turns_else store question.Get g.retries id g.stores h.stores turns;
         faults = counts;
+        paid = omega (arith, counts, asked.this);
       }
   group_asked question.Has turns =
       let asked = once store.queried (turns_once store question.Has g.retries id g.stores h.stores turns) in
@@ -278,6 +322,7 @@ module _ {S : Type 0} (store : StoreWords S) (id : List ℕ) (g h : Grouped S) (
         others = asked.others;
         stays = sym (again store.asked) ∙ turns_else store question.Has g.retries id g.stores h.stores turns;
         faults = counts;
+        paid = omega (arith, counts, asked.this);
       }
 
 -- ---- how often a store was called, by how often the group was asked

@@ -4,6 +4,7 @@ use Rattle.std.specs.List.{AllZip}
 use Rattle.chunk_store.proofs.Said.{keeps_itself, keeps_on}
 use Rattle.chunk_store.proofs.Sends.{sends_on, sends_still}
 use Rattle.chunk_store.specs.declared.store.Store.{Ghosts as StoreWords}
+use Rattle.dsy_base.specs.Counts.{Rose}
 use Rattle.store_group.specs.Answers.{AnswersAt, AskedUpTo, Says, ask_for}
 use Rattle.store_group.specs.declared.answer.Answer.{Answer}
 use Rattle.store_group.specs.declared.answer.Question.{Question}
@@ -22,11 +23,12 @@ module _ {S : Type 0} (store : StoreWords S) (q : Question) (id : List ℕ) wher
     others = λ x apart. refl;
     stays = refl;
     faults = omega arith;
+    paid = omega arith;
   }
 
-  -- one that was asked again
-  pub asked_on : (m n k : ℕ) (s t u : S) → k ≡ m + n → AskedUpTo store q m id s t → AskedUpTo store q n id t u → AskedUpTo store q k id s u
-  asked_on m n k s t u sum first then = record {
+  -- one that failed and was asked again
+  pub asked_on : (n k : ℕ) (s t u : S) → k ≡ 1 + n → Rose (store.faults s) (store.faults t) → AskedUpTo store q 1 id s t → AskedUpTo store q n id t u → AskedUpTo store q k id s u
+  asked_on n k s t u sum rose first then = record {
     holds = then.holds ∙ first.holds;
     folder = then.folder ∙ first.folder;
     place = then.place ∙ first.place;
@@ -37,6 +39,7 @@ module _ {S : Type 0} (store : StoreWords S) (q : Question) (id : List ℕ) wher
     others = λ x apart. then.others x apart ∙ first.others x apart;
     stays = then.stays ∙ first.stays;
     faults = omega (arith, first.faults, then.faults);
+    paid = omega (arith, rose, first.this, first.no_less, then.no_less, then.paid);
   }
 
   -- stores that weren't asked
@@ -61,4 +64,5 @@ module _ {S : Type 0} (store : StoreWords S) (q : Question) (id : List ℕ) wher
     others = h.others;
     stays = h.stays;
     faults = h.faults;
+    paid = h.paid;
   }

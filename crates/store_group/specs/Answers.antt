@@ -1,11 +1,13 @@
 -- What a store answers to one question, which may be asked several times, and what that leaves of the store.
-use Rattle.std.specs.Prelude.{◌≡◌, ◌≢◌, ℕ, zero, suc, ◌+◌, ◌<◌, ◌≤◌, List, [], ◌∷◌, length, take, false, Some, None}
-use Rattle.std.specs.Prelude.{IfSome, IsTrue, is_some, Bool, Result, Ok, Err}
+use Rattle.std.specs.Prelude.{◌≡◌, ◌≢◌, ◌⊎◌, ℕ, zero, suc, ◌+◌, ◌-◌, ◌<◌, ◌≤◌, List, [], ◌∷◌, length, take, drop, false}
+use Rattle.std.specs.Prelude.{Some, None, IfSome, IsTrue, is_some, Bool, Result, Ok, Err}
+use Rattle.std.specs.List.{AllZip}
 use Rattle.chunk_store.specs.Asks.{Ask, Get, Has, Sends}
 use Rattle.chunk_store.specs.Said.{KeepsOf}
 use Rattle.chunk_store.specs.declared.store.GetFault.{GetFault}
 use Rattle.chunk_store.specs.declared.store.GetFault.TheVariants as get
 use Rattle.chunk_store.specs.declared.store.Store.{Ghosts as StoreWords}
+use Rattle.dsy_base.specs.Counts.{raised}
 use Rattle.dsy_base.specs.declared.fault.IoFault.{IoFault}
 use Rattle.dsy_base.specs.declared.fault.IoFault.TheVariants as io
 use Rattle.store_group.specs.declared.answer.Answer.{Answer}
@@ -61,6 +63,8 @@ module _ {S : Type 0} (store : StoreWords S) where
     pub others : (x : List ℕ) → x ≢ id → times_asked q t x ≡ times_asked q s x
     pub stays : times_else q t ≡ times_else q s
     pub faults : store.faults s ≤ store.faults t
+    -- each time but one comes after a failure
+    pub paid : raised (store.faults s) (times_asked q t id - (times_asked q s id + 1)) ≤ store.faults t
 
   -- what the store's answer says of it, s before and t after it, where the buffer then holds `out`
   abbrev pub Says : Question → List ℕ → S → S → List ℕ → Answer → Type 0
@@ -77,6 +81,25 @@ module _ {S : Type 0} (store : StoreWords S) where
   Says question.Has id s t out answer.Longer = ⊥
   Says q id s t out answer.Failed = Unit {0}
   Says q id s t out answer.Memory = IsTrue store.may_lack_memory
+
+  -- the store failed in each of r + 1 calls
+  abbrev pub FailsAll : ℕ → S → S → Type 0
+  FailsAll r s t = raised (store.faults s) (r + 1) ≤ store.faults t
+
+  -- the store of number k answered so, and didn't fail; each before it failed in r + 1 calls, and no other was asked
+  abbrev pub AnswersFirst : Question → ℕ → List ℕ → ℕ → List S → List S → List ℕ → Answer → Type 0
+  AnswersFirst q r id zero (s ∷ old) (t ∷ new) out a = Says q id s t out a × (a ≢ answer.Failed) × (new ≡ old)
+  AnswersFirst q r id (suc k) (s ∷ old) (t ∷ new) out a = FailsAll r s t × AnswersFirst q r id k old new out a
+  AnswersFirst q r id k old new out a = ⊥
+
+  -- so it was with the stores from the one of number `active` on, and then, where all of these failed, with those
+  -- before it: the one of number n answered
+  abbrev pub AnswersRound : Question → ℕ → List ℕ → ℕ → ℕ → List S → List S → List ℕ → Answer → Type 0
+  AnswersRound q r id active n old new out a =
+      ((k : ℕ) × (n ≡ active + k) × (take active new ≡ take active old)
+      × AnswersFirst q r id k (drop active old) (drop active new) out a)
+      ⊎ (AllZip (FailsAll r) (drop active old) (drop active new)
+      × AnswersFirst q r id n (take active old) (take active new) out a)
 
   -- the store of number k answered so, and didn't fail
   abbrev pub AnswersAt : Question → List ℕ → ℕ → List S → List S → List ℕ → Answer → Type 0

@@ -94,9 +94,11 @@ pub(crate) fn ask<S: Store>(
     ensures asked { AskedUpTo S.Store question (retries + 1) id.now.0 store.old store.new }
     ensures failed { result ≡ Answer.Failed → raised (S.faults store.old) (retries + 1) ≤ S.faults store.new }
 {
-    let answer = ask_once(store, question, id, out);
-    if retries == 0 || answer != Answer::Failed {
-        return answer;
+    if retries == 0 {
+        return ask_once(store, question, id, out);
     }
-    ask(store, retries - 1, question, id, out)
+    match ask_once(store, question, id, out) {
+        Answer::Failed => ask(store, retries - 1, question, id, out),
+        answer => answer,
+    }
 }

@@ -3,7 +3,7 @@
 ghost use Rattle.std.specs.Prelude.{◌≡◌, ◌≢◌, ◌<◌, ◌≤◌, ◌+◌, length, vec_len};
 ghost use Rattle.std.specs.List.{AllZip};
 ghost use Rattle.dsy_base.specs.Counts.{raised};
-ghost use Rattle.store_group.specs.Answers.{AnswersAt, AskedUpTo, IsAbout, Says, answer_to_get, answer_to_has};
+ghost use Rattle.store_group.specs.Answers.{AnswersRound, AskedUpTo, FailsAll, IsAbout, Says, answer_to_get, answer_to_has};
 ghost use Rattle.store_group.specs.Groups.{Grouped, as_store};
 
 use crate::answer::{Answer, Question};
@@ -69,10 +69,11 @@ impl<S: Store> Group<S> {
         ensures asked { AskedUpTo (as_store S.Store) question 1 id.now.0 self.old self.new }
         ensures turns { AllZip (AskedUpTo S.Store question (self.old.retries + 1) id.now.0) self.old.stores
             self.new.stores }
-        ensures active { result ≢ Answer.Failed → (self.new.failed ≡ self.old.failed) × AnswersAt S.Store question
-            id.now.0 self.new.active self.old.stores self.new.stores out.new result }
+        ensures active { result ≢ Answer.Failed → (self.new.failed ≡ self.old.failed) × AnswersRound S.Store question
+            self.old.retries id.now.0 self.old.active self.new.active self.old.stores self.new.stores out.new result }
         ensures failed { result ≡ Answer.Failed → (self.new.failed ≡ raised self.old.failed 1)
-            × (self.new.active ≡ self.old.active) }
+            × (self.new.active ≡ self.old.active)
+            × AllZip (FailsAll S.Store self.old.retries) self.old.stores self.new.stores }
         ensures retries { self.new.retries ≡ self.old.retries }
     {
         let stores = self.stores.as_mut_slice();

@@ -2,8 +2,7 @@
 
 ghost use Rattle.std.specs.Prelude.{◌≡◌, ◌≤◌, ◌<◌, ◌+◌, None, IfSome, length};
 ghost use Rattle.std.specs.List.{AllZip};
-ghost use Rattle.dsy_base.specs.Counts.{raised};
-ghost use Rattle.store_group.specs.Answers.{AnswersAt, AskedUpTo};
+ghost use Rattle.store_group.specs.Answers.{AnswersAt, AnswersFirst, AnswersRound, AskedUpTo, FailsAll};
 
 use crate::answer::{Answer, Question, ask};
 use chunk_store::id::ChunkId;
@@ -18,10 +17,10 @@ fn ask_in_turn<S: Store>(
     id: &ChunkId,
     out: &mut [u8],
 ) -> Option<(usize, Answer)>
-    ensures answer { IfSome result (λ p. AnswersAt S.Store question id.now.0 p.0 stores.old stores.new out.new p.1) }
+    ensures answer { IfSome result (λ p. AnswersFirst S.Store question retries id.now.0 p.0 stores.old stores.new
+        out.new p.1) }
     ensures inside { IfSome result (λ p. p.0 < length stores.new) }
-    ensures failed { result ≡ None → AllZip (λ s t. raised (S.faults s) (retries + 1) ≤ S.faults t)
-        stores.old stores.new }
+    ensures failed { result ≡ None → AllZip (FailsAll S.Store retries) stores.old stores.new }
     ensures asked { AllZip (AskedUpTo S.Store question (retries + 1) id.now.0) stores.old stores.new }
 {
     let (first, rest) = stores.split_first_mut()?;
@@ -43,10 +42,11 @@ pub(crate) fn ask_round<S: Store>(
     out: &mut [u8],
 ) -> Option<(usize, Answer)>
     requires active { active < length stores.old }
-    ensures answer { IfSome result (λ p. AnswersAt S.Store question id.now.0 p.0 stores.old stores.new out.new p.1) }
+    ensures answer { IfSome result (λ p. AnswersRound S.Store question retries id.now.0 active p.0 stores.old
+        stores.new out.new p.1) }
+    ensures at { IfSome result (λ p. AnswersAt S.Store question id.now.0 p.0 stores.old stores.new out.new p.1) }
     ensures inside { IfSome result (λ p. p.0 < length stores.new) }
-    ensures failed { result ≡ None → AllZip (λ s t. raised (S.faults s) (retries + 1) ≤ S.faults t)
-        stores.old stores.new }
+    ensures failed { result ≡ None → AllZip (FailsAll S.Store retries) stores.old stores.new }
     ensures asked { AllZip (AskedUpTo S.Store question (retries + 1) id.now.0) stores.old stores.new }
 {
     let (before, from) = stores.split_at_mut(active);

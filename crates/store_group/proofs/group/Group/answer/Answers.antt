@@ -1,9 +1,8 @@
-use Rattle.std.proofs.Common.{◌≡◌, ◌≤◌, ◌<◌, ◌+◌, ℕ, List, length, refl, sym, subst, ◌∙◌, arith}
+use Rattle.std.proofs.Common.{◌≡◌, ◌<◌, ◌+◌, ℕ, List, length, refl, sym, subst, ◌∙◌, arith}
 use Rattle.std.specs.List.{AllZip}
 use Rattle.std.proofs.lemmas.List.{with_items_is}
 use Rattle.std.specs.Vec.{with_items}
-use Rattle.dsy_base.specs.Counts.{raised}
-use Rattle.store_group.specs.Answers.{AnswersAt, AskedUpTo, Says}
+use Rattle.store_group.specs.Answers.{AnswersAt, AskedUpTo, FailsAll, Says}
 use Rattle.store_group.specs.Groups.{CountsFailures, Grouped, as_store}
 use Rattle.store_group.proofs.Groups.{answers_unfailed, failures_more, failures_still, group_asked, group_says}
 use Rattle.store_group.proofs.group.Group.answer.Goals as goal
@@ -22,7 +21,7 @@ invariant_of-self g c =
 pub invariant_of-self-in-None : goal.invariant_of-self-in-None
 invariant_of-self-in-None g c =
     let kept = with_items_is c.self.inside.stores c.ask_round.new.stores (omega (arith, c.ask_round.auto.stores, c.as_mut_slice-stores.ensures.len)) in
-    let failed = subst (λ (l : List g.row.S.Denot). AllZip (λ s t. raised (g.S.Store.faults s) (c.self.inside.retries + 1) ≤ g.S.Store.faults t) l c.ask_round.new.stores) c.as_mut_slice-stores.ensures.value (c.ask_round.ensures.failed c.in-None.is) in
+    let failed = subst (λ (l : List g.row.S.Denot). AllZip (FailsAll g.S.Store c.self.inside.retries) l c.ask_round.new.stores) c.as_mut_slice-stores.ensures.value (c.ask_round.ensures.failed c.in-None.is) in
     let counted = failures_more g.S.Store c.args.question c.self.inside.retries c.args.id.now.0 c.self.inside.failed c.self.inside.stores.items c.ask_round.new.stores failed c.self.invariant.1 in
     subst (λ (l : List g.row.S.Denot). (c.self.inside.active < length l) × CountsFailures g.S.Store.faults (left l c.self.inside.active c.self.inside.retries c.raise-self-inside.result)) (sym kept)
       (omega (arith, c.self.invariant.0, c.ask_round.auto.stores, c.as_mut_slice-stores.ensures.len),
@@ -33,7 +32,7 @@ returns-in-Some-clause-says g c =
     let kept = with_items_is c.self.inside.stores c.ask_round.new.stores (omega (arith, c.ask_round.auto.stores, c.as_mut_slice-stores.ensures.len)) in
     let old = left c.self.inside.stores.items c.self.inside.active c.self.inside.retries c.self.inside.failed in
     let new = left c.ask_round.new.stores c.in-Some.number c.self.inside.retries c.self.inside.failed in
-    let at = subst (λ (l : List g.row.S.Denot). AnswersAt g.S.Store c.args.question c.args.id.now.0 c.in-Some.number l c.ask_round.new.stores c.ask_round.new.out c.in-Some.answer) c.as_mut_slice-stores.ensures.value c.in-Some.ensures.answer in
+    let at = subst (λ (l : List g.row.S.Denot). AnswersAt g.S.Store c.args.question c.args.id.now.0 c.in-Some.number l c.ask_round.new.stores c.ask_round.new.out c.in-Some.answer) c.as_mut_slice-stores.ensures.value c.in-Some.ensures.at in
     let says = group_says g.S.Store c.args.id.now.0 c.ask_round.new.out old new c.args.question c.in-Some.answer c.in-Some.number at in
     subst (λ (v : Grouped g.row.S.Denot). Says (as_store g.S.Store) c.args.question c.args.id.now.0 v (left (with_items c.self.inside.stores c.ask_round.new.stores).items c.in-Some.number c.self.inside.retries c.self.inside.failed) c.ask_round.new.out c.in-Some.answer) c.self.view_is
       (subst (λ (l : List g.row.S.Denot). Says (as_store g.S.Store) c.args.question c.args.id.now.0 old (left l c.in-Some.number c.self.inside.retries c.self.inside.failed) c.ask_round.new.out c.in-Some.answer) (sym kept) says)
@@ -50,7 +49,7 @@ returns-in-Some-clause-asked g c =
 
 pub returns-in-Some-clause-failed : goal.returns-in-Some-clause-failed
 returns-in-Some-clause-failed g c failed =
-    absurd (answers_unfailed g.S.Store c.args.question c.args.id.now.0 c.ask_round.new.out c.in-Some.answer c.in-Some.number _ c.ask_round.new.stores c.in-Some.ensures.answer failed)
+    absurd (answers_unfailed g.S.Store c.args.question c.args.id.now.0 c.ask_round.new.out c.in-Some.answer c.in-Some.number _ c.ask_round.new.stores c.in-Some.ensures.at failed)
 
 pub returns-in-None-clause-asked : goal.returns-in-None-clause-asked
 returns-in-None-clause-asked g c =
