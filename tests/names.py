@@ -1,6 +1,6 @@
 #!/usr/bin/env python3
 """What the documents name and the repository lacks, a line each, labels of clauses that no list has, and what is too
-much in crates.txt or in a crate.
+much in crates.txt, in a crate or in the documents.
 
 A crate is one of crates.txt. A label is the name of a clause (`ensures LABEL { .. }`). Each row of docs/PROMISES.md has
 a promise, and behind it public functions, a colon and labels, in a section whose heading has the crates in brackets:
@@ -21,6 +21,8 @@ FUNCTION = re.compile(r'\s*(?:pub(?:\(\w+\))? )?fn (\w+)')
 DEFINITION = re.compile(r'^( *)(?:(?:abbrev|unfoldable) )?pub ((?:record|data) )?(?!mod |use |◌)(\w+)')
 IMPORT = re.compile(r'^(?:ghost )?use Rattle\.(\w+)\.specs\.(\w+)\.\{([^}]*)\}', re.MULTILINE)
 MOST_LINES, MOST_BODY = 1500, 40
+# The most words of all documents and of single ones, those of the manual page and of tables and blocks counted too.
+MOST_WORDS, MOST_OF = 35000, {PROMISES: 5000, DEFINITIONS: 5000}
 # Names of specs/ that several modules define, which modules these are, and why they may share it.
 SHARED = {name: ({f'chunk_server.{here}', f'http_serve.{there}'}, 'said of any requests, and of those for chunks')
           for here, there, names in (('Requests', 'Requests', ('AreRequests', 'IsOver')),
@@ -265,6 +267,13 @@ def crates_that_are_too_long():
             yield f'{crate}: {lines} lines'
 
 
+def documents_that_are_too_long():
+    words = {path: len(text_of(path).split()) for path in [*documents(), 'docs/desync.1']}
+    yield from (f'{path}: {words[path]} words' for path, most in MOST_OF.items() if most < words[path])
+    if MOST_WORDS < sum(words.values()):
+        yield f'all documents: {sum(words.values())} words'
+
+
 def bodies_that_are_too_long():
     """Bodies that have not fewer than 40 lines between their braces, but for those that are one `match`."""
     for path in (path for crate in crates() if not crate.endswith('_cases')
@@ -291,7 +300,7 @@ QUESTIONS = {'labels': labels_that_are_not_there, 'list': labels_that_are_not_li
              'crates': crates_that_no_table_has, 'reached': definitions_that_are_not_read_aloud,
              'comments': definitions_without_a_comment, 'twice': names_with_two_meanings,
              'aliases': calls_with_an_alias, 'vain': crates_named_in_vain, 'long': crates_that_are_too_long,
-             'bodies': bodies_that_are_too_long}
+             'bodies': bodies_that_are_too_long, 'words': documents_that_are_too_long}
 
 if __name__ == '__main__':
     print('\n'.join(QUESTIONS[sys.argv[1]]()))
