@@ -52,8 +52,11 @@ check 'names of planning papers' "$(lines '\<(scope|promises|roadmap|formats|set
 check 'paths of one machine' "$(lines '(^|[^A-Za-z0-9_.~-])/(opt|work|root)[/]')"
 check 'files of more than 800 lines' "$(files | xargs -0 -r wc -l 2> /dev/null |
     awk '$2 ~ /^(\.\/)?crates\// && $1 > 800')"
+check 'files of src and specs of 500 lines and more' "$(files | grep -zE '^(\./)?crates/[a-z_]+/(src|specs)/' |
+    xargs -0 -r wc -l 2> /dev/null | awk '$2 != "total" && $1 >= 500')"
 check 'crates of more than 1,500 lines' "$(python3 tests/names.py long 2>&1)"
 check 'bodies of 40 lines and more' "$(python3 tests/names.py bodies 2>&1)"
+check 'functions of more than 7 parameters' "$(python3 tests/names.py parameters 2>&1)"
 check 'lines of more than 120 columns' "$(wide 2>&1)"
 check 'documents of too many words' "$(python3 tests/names.py words 2>&1)"
 check 'files that are built' "$(files | tr '\0' '\n' | grep -E '(^|/)(out|bin|__pycache__)/')"
