@@ -312,7 +312,7 @@ def by_casync(cases):
 
 
 def unpack(packed, folder):
-    """Writes the chunks of a store that casync filled with `--compression=gzip` as the bytes alone, each under its id."""
+    """Writes the chunks of a store that casync filled with `--compression=gzip` unpacked, each under its id."""
     for root, _, names in os.walk(packed):
         for name in names:
             stem, suffix = os.path.splitext(name)
@@ -325,7 +325,7 @@ def unpack(packed, folder):
 
 def from_casync(cases):
     for kind in FLAGS:
-        with cases.case(f'extract reads the index and the uncompressed chunks of casync make --digest={kind}') as folder:
+        with cases.case(f'extract reads the index and the unpacked chunks of casync make --digest={kind}') as folder:
             if shutil.which('casync') is None:
                 raise Skip('casync isn\'t installed')
             image = random.Random(11).randbytes(3_000_000) + bytes(500_000)
