@@ -113,9 +113,13 @@ module _ {S : Type 0} (store : StoreWords S) (q : Question) (r : ℕ) (id : List
   pub round_second : (a : Answer) (active k n : ℕ) (whole old bs ys : List S) → whole ≡ old ++ bs → length old ≡ active → n ≡ active + k
       → AnswersFirst store q r id k bs ys out a → AnswersRound store q r id active n whole (old ++ ys) out a
   round_second a active k n whole old bs ys is size number first =
-      inl (k, number, take_front active (old ++ ys) old ys refl size ∙ sym (take_front active whole old bs is size),
+      inl (
+        k,
+        number,
+        take_front active (old ++ ys) old ys refl size ∙ sym (take_front active whole old bs is size),
         subst (λ (l : List S). AnswersFirst store q r id k l (drop active (old ++ ys)) out a) (sym (drop_front active whole old bs is size))
-          (subst (λ (l : List S). AnswersFirst store q r id k bs l out a) (sym (drop_front active (old ++ ys) old ys refl size)) first))
+            (subst (λ (l : List S). AnswersFirst store q r id k bs l out a) (sym (drop_front active (old ++ ys) old ys refl size)) first),
+      )
 
   -- all of the second part failed, and one of the first part answered
   pub round_first : (active : ℕ) (o : Option (ℕ × Answer)) (whole old bs xs ys : List S) → whole ≡ old ++ bs → length old ≡ active → length xs ≡ active
@@ -123,10 +127,12 @@ module _ {S : Type 0} (store : StoreWords S) (q : Question) (r : ℕ) (id : List
       → IfSome o (λ p. AnswersRound store q r id active p.0 whole (xs ++ ys) out p.1)
   round_first active None whole old bs xs ys is size same failed h = tt
   round_first active (Some p) whole old bs xs ys is size same failed h =
-      inr (subst (λ (l : List S). AllZip (FailsAll store r) l (drop active (xs ++ ys))) (sym (drop_front active whole old bs is size))
-          (subst (λ (l : List S). AllZip (FailsAll store r) bs l) (sym (drop_front active (xs ++ ys) xs ys refl same)) failed),
+      inr (
+        subst (λ (l : List S). AllZip (FailsAll store r) l (drop active (xs ++ ys))) (sym (drop_front active whole old bs is size))
+            (subst (λ (l : List S). AllZip (FailsAll store r) bs l) (sym (drop_front active (xs ++ ys) xs ys refl same)) failed),
         subst (λ (l : List S). AnswersFirst store q r id p.0 l (take active (xs ++ ys)) out p.1) (sym (take_front active whole old bs is size))
-          (subst (λ (l : List S). AnswersFirst store q r id p.0 old l out p.1) (sym (take_front active (xs ++ ys) xs ys refl same)) h))
+            (subst (λ (l : List S). AnswersFirst store q r id p.0 old l out p.1) (sym (take_front active (xs ++ ys) xs ys refl same)) h),
+      )
 
   -- what the first that didn't fail answered
   pub may_first : (o : Option (ℕ × Answer)) (old xs : List S) → IfSome o (λ p. AnswersFirst store q r id p.0 old xs out p.1) → IfSome o (λ p. AnswersAt store q id p.0 old xs out p.1)
@@ -259,21 +265,25 @@ module _ {S : Type 0} (store : StoreWords S) (id : List ℕ) (out : List ℕ) (g
   -- what the store says that answered, the group says
   pub group_says : (q : Question) (a : Answer) (k : ℕ) → AnswersAt store q id k g.stores h.stores out a → Says (as_store store) q id g h out a
   group_says question.Get (answer.Given n) k at = (
-      of_all h.stores (some_answers store question.Get id out (answer.Given n) (λ t. n ≤ length out) (λ s t says. says.0) k g.stores h.stores at),
-      some_answers store question.Get id out (answer.Given n) (λ t. (store.said t).shown id (take n out)) (λ s t says. says.1) k g.stores h.stores at,
-      one_answers store question.Get id out (answer.Given n) store.holds (λ m. m id ≡ Some (take n out)) (λ s t says. says.2) k g.stores h.stores at)
+    of_all h.stores (some_answers store question.Get id out (answer.Given n) (λ t. n ≤ length out) (λ s t says. says.0) k g.stores h.stores at),
+    some_answers store question.Get id out (answer.Given n) (λ t. (store.said t).shown id (take n out)) (λ s t says. says.1) k g.stores h.stores at,
+    one_answers store question.Get id out (answer.Given n) store.holds (λ m. m id ≡ Some (take n out)) (λ s t says. says.2) k g.stores h.stores at,
+  )
   group_says question.Get answer.Missing k at = (
-      some_answers store question.Get id out answer.Missing (λ t. (store.said t).denied id) (λ s t says. says.0) k g.stores h.stores at,
-      one_answers store question.Get id out answer.Missing store.holds (λ m. m id ≡ None) (λ s t says. says.1) k g.stores h.stores at)
+    some_answers store question.Get id out answer.Missing (λ t. (store.said t).denied id) (λ s t says. says.0) k g.stores h.stores at,
+    one_answers store question.Get id out answer.Missing store.holds (λ m. m id ≡ None) (λ s t says. says.1) k g.stores h.stores at,
+  )
   group_says question.Get answer.Longer k at = (
-      some_answers store question.Get id out answer.Longer (λ t. (store.said t).longer id (length out)) (λ s t says. says.0) k g.stores h.stores at,
-      one_answers store question.Get id out answer.Longer store.holds (λ m. (b : List ℕ) × (m id ≡ Some b) × (length out < length b)) (λ s t says. says.1) k g.stores h.stores at)
+    some_answers store question.Get id out answer.Longer (λ t. (store.said t).longer id (length out)) (λ s t says. says.0) k g.stores h.stores at,
+    one_answers store question.Get id out answer.Longer store.holds (λ m. (b : List ℕ) × (m id ≡ Some b) × (length out < length b)) (λ s t says. says.1) k g.stores h.stores at,
+  )
   group_says question.Get (answer.There has) k at = of_all h.stores (some_answers store question.Get id out (answer.There has) (λ t. ⊥) (λ s t says. says) k g.stores h.stores at)
   group_says question.Get answer.Failed k at = tt
   group_says question.Get answer.Memory k at = of_all h.stores (some_answers store question.Get id out answer.Memory (λ t. IsTrue store.may_lack_memory) (λ s t says. says) k g.stores h.stores at)
   group_says question.Has (answer.There has) k at = (
-      (λ no. some_answers store question.Has id out (answer.There has) (λ t. (store.said t).denied id) (λ s t says. says.0 no) k g.stores h.stores at),
-      one_answers store question.Has id out (answer.There has) store.holds (λ m. has ≡ is_some (m id)) (λ s t says. says.1) k g.stores h.stores at)
+    (λ no. some_answers store question.Has id out (answer.There has) (λ t. (store.said t).denied id) (λ s t says. says.0 no) k g.stores h.stores at),
+    one_answers store question.Has id out (answer.There has) store.holds (λ m. has ≡ is_some (m id)) (λ s t says. says.1) k g.stores h.stores at,
+  )
   group_says question.Has (answer.Given n) k at = of_all h.stores (some_answers store question.Has id out (answer.Given n) (λ t. ⊥) (λ s t says. says) k g.stores h.stores at)
   group_says question.Has answer.Missing k at = of_all h.stores (some_answers store question.Has id out answer.Missing (λ t. ⊥) (λ s t says. says) k g.stores h.stores at)
   group_says question.Has answer.Longer k at = of_all h.stores (some_answers store question.Has id out answer.Longer (λ t. ⊥) (λ s t says. says) k g.stores h.stores at)

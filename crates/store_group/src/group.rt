@@ -32,7 +32,11 @@ impl<S: Store> Model for Group<S> {
     ghost view = { λ g. record { stores = g.stores.items; active = g.active; retries = g.retries; failed = g.failed } };
 
     ghost invariant = { λ g. (g.active < length g.stores.items) × CountsFailures S.faults (record {
-        stores = g.stores.items; active = g.active; retries = g.retries; failed = g.failed }) };
+      stores = g.stores.items;
+      active = g.active;
+      retries = g.retries;
+      failed = g.failed;
+    }) };
 }
 
 impl<S: Store> Group<S> {
