@@ -1,15 +1,15 @@
 -- What a group keeps and counts as one store.
-use Rattle.std.proofs.Common.{◌≡◌, ◌≢◌, ◌⊎◌, inl, inr, ℕ, zero, suc, ◌+◌, ◌*◌, ◌/◌, ◌≤◌, ◌<◌, List, [], ◌∷◌, ◌++◌, length, max, Option, Some, None, IfSome, IsTrue, is_some, take, drop, refl, sym, subst, ap, ◌∙◌, arith}
+use Rattle.std.proofs.Common.{◌≡◌, ◌≢◌, inl, inr, ℕ, zero, suc, ◌+◌, ◌*◌, ◌/◌, ◌≤◌, ◌<◌, List, [], ◌∷◌, ◌++◌, length, max, Option, Some, None, IfSome, IsTrue, is_some, take, drop, refl, sym, subst, ap, ◌∙◌, arith}
 use Rattle.std.specs.List.{AllByRecursion, AllZip}
 use Rattle.std.proofs.Math.Nat.{add-div_right, add-mul, div-mul-le_self, mod-lt, mul-le-mul_right}
 use Rattle.std.proofs.Math.Seq.{drop-append_seam, take-append_seam}
 use Rattle.std.proofs.lemmas.Nat.{div-add-mod', le-div}
-use Rattle.chunk_store.specs.Asks.{Sent, Sends}
-use Rattle.chunk_store.specs.Said.{Said, AskedOnce, KeepsOf}
+use Rattle.chunk_store.specs.Asks.{Sends}
+use Rattle.chunk_store.specs.Said.{AskedOnce, KeepsOf}
 use Rattle.chunk_store.specs.declared.store.Store.{Ghosts as StoreWords}
 use Rattle.dsy_base.specs.Counts.{raised}
-use Rattle.store_group.specs.Answers.{AnswersAt, AnswersFirst, AnswersRound, AskedUpTo, FailsAll, Says, ask_for, times_asked, times_else}
-use Rattle.store_group.specs.Groups.{CountsFailures, Grouped, as_store, SomeStore, asked_of, most, of_one, questions_of, place_of, said_of, sent_of}
+use Rattle.store_group.specs.Answers.{AnswersAt, AnswersFirst, AnswersRound, AskedUpTo, FailsAll, AnswerSays, ask_for, times_for, times_other}
+use Rattle.store_group.specs.Groups.{Grouped, as_store, SomeStore, group_count, most, of_one, questions_of, group_place, said_of, sent_of}
 use Rattle.store_group.specs.declared.answer.Answer.{Answer}
 use Rattle.store_group.specs.declared.answer.Answer.TheVariants as answer
 use Rattle.store_group.specs.declared.answer.Question.{Question}
@@ -51,7 +51,7 @@ module _ {S : Type 0} (store : StoreWords S) (q : Question) (id : List ℕ) (out
   answers_unfailed (suc k) (s ∷ old) (x ∷ xs) h = answers_unfailed k old xs h
 
   -- what the store that answered is like, some store is like
-  pub some_answers : (P : S → Type 0) → ((s t : S) → Says store q id s t out a → P t) → (k : ℕ) (old xs : List S) → AnswersAt store q id k old xs out a → SomeStore P xs
+  pub some_answers : (P : S → Type 0) → ((s t : S) → AnswerSays store q id s t out a → P t) → (k : ℕ) (old xs : List S) → AnswersAt store q id k old xs out a → SomeStore P xs
   some_answers P f zero [] xs h = absurd h
   some_answers P f (suc k) [] xs h = absurd h
   some_answers P f zero (s ∷ old) [] h = absurd h
@@ -60,7 +60,7 @@ module _ {S : Type 0} (store : StoreWords S) (q : Question) (id : List ℕ) (out
   some_answers P f (suc k) (s ∷ old) (x ∷ xs) h = inr (some_answers P f k old xs h)
 
   -- what holds of what it tells holds of what the group tells
-  pub one_answers : {X : Type 0} (tells : S → Option X) (P : X → Type 0) → ((s t : S) → Says store q id s t out a → IfSome (tells s) P)
+  pub one_answers : {X : Type 0} (tells : S → Option X) (P : X → Type 0) → ((s t : S) → AnswerSays store q id s t out a → IfSome (tells s) P)
       → (k : ℕ) (old xs : List S) → AnswersAt store q id k old xs out a → IfSome (of_one tells old) P
   one_answers tells P f k [] xs h = tt
   one_answers tells P f zero (s ∷ []) [] h = absurd h
@@ -150,7 +150,7 @@ one_kept R tells f (s ∷ []) (x ∷ y ∷ xs) h = absurd h.1
 one_kept R tells f (s ∷ t ∷ old) (x ∷ []) h = absurd h.1
 one_kept R tells f (s ∷ t ∷ old) (x ∷ y ∷ xs) h = refl
 
-pub place_kept : {S : Type 0} (R : S → S → Type 0) (place : S → List ℕ) → ((s t : S) → R s t → place t ≡ place s) → (old xs : List S) → AllZip R old xs → place_of place xs ≡ place_of place old
+pub place_kept : {S : Type 0} (R : S → S → Type 0) (place : S → List ℕ) → ((s t : S) → R s t → place t ≡ place s) → (old xs : List S) → AllZip R old xs → group_place place xs ≡ group_place place old
 place_kept R place f [] [] h = refl
 place_kept R place f [] (x ∷ xs) h = absurd h
 place_kept R place f (s ∷ old) [] h = absurd h
@@ -218,7 +218,7 @@ module _ {S : Type 0} (store : StoreWords S) (q : Question) (r : ℕ) (id : List
   Turn = AskedUpTo store q (r + 1) id
 
   abbrev Times : S → List ℕ → ℕ
-  Times = times_asked store q
+  Times = times_for store q
 
   pub turns_once : (old xs : List S) → AllZip Turn old xs
       → AskedOnce (λ x. most (λ s. questions_of r (Times s x)) old) (λ x. most (λ s. questions_of r (Times s x)) xs) id
@@ -229,8 +229,8 @@ module _ {S : Type 0} (store : StoreWords S) (q : Question) (r : ℕ) (id : List
   }
 
   pub turns_else : (old xs : List S) → AllZip Turn old xs
-      → ◌≡◌ {A = List ℕ → ℕ} (λ x. most (λ s. questions_of r (times_else store q s x)) xs) (λ x. most (λ s. questions_of r (times_else store q s x)) old)
-  turns_else old xs h = λ i x. most_same Turn (λ s. questions_of r (times_else store q s x)) (λ s t turn. ap (λ f. questions_of r (f x)) turn.stays) old xs h i
+      → ◌≡◌ {A = List ℕ → ℕ} (λ x. most (λ s. questions_of r (times_other store q s x)) xs) (λ x. most (λ s. questions_of r (times_other store q s x)) old)
+  turns_else old xs h = λ i x. most_same Turn (λ s. questions_of r (times_other store q s x)) (λ s t turn. ap (λ f. questions_of r (f x)) turn.stays) old xs h i
 
   -- ---- how often they failed
 
@@ -263,7 +263,7 @@ of_all (s ∷ stores) (inr h) = of_all stores h
 
 module _ {S : Type 0} (store : StoreWords S) (id : List ℕ) (out : List ℕ) (g h : Grouped S) where
   -- what the store says that answered, the group says
-  pub group_says : (q : Question) (a : Answer) (k : ℕ) → AnswersAt store q id k g.stores h.stores out a → Says (as_store store) q id g h out a
+  pub group_says : (q : Question) (a : Answer) (k : ℕ) → AnswersAt store q id k g.stores h.stores out a → AnswerSays (as_store store) q id g h out a
   group_says question.Get (answer.Given n) k at = (
     of_all h.stores (some_answers store question.Get id out (answer.Given n) (λ t. n ≤ length out) (λ s t says. says.0) k g.stores h.stores at),
     some_answers store question.Get id out (answer.Given n) (λ t. (store.said t).shown id (take n out)) (λ s t says. says.1) k g.stores h.stores at,
@@ -295,12 +295,12 @@ module _ {S : Type 0} (store : StoreWords S) (id : List ℕ) (g h : Grouped S) (
   Turned q = AskedUpTo store q (g.retries + 1) id
 
   -- how often its stores were asked, by the number of calls that a question makes
-  again : (count : S → List ℕ → ℕ) → ◌≡◌ {A = List ℕ → ℕ} (λ x. most (λ s. questions_of g.retries (count s x)) h.stores) (asked_of count h)
+  again : (count : S → List ℕ → ℕ) → ◌≡◌ {A = List ℕ → ℕ} (λ x. most (λ s. questions_of g.retries (count s x)) h.stores) (group_count count h)
   again count = λ i x. most (λ s. questions_of (sym same i) (count s x)) h.stores
 
-  once : (count : S → List ℕ → ℕ) → AskedOnce (asked_of count g) (λ x. most (λ s. questions_of g.retries (count s x)) h.stores) id
-      → AskedOnce (asked_of count g) (asked_of count h) id
-  once count asked = subst (λ (f : List ℕ → ℕ). AskedOnce (asked_of count g) f id) (again count) asked
+  once : (count : S → List ℕ → ℕ) → AskedOnce (group_count count g) (λ x. most (λ s. questions_of g.retries (count s x)) h.stores) id
+      → AskedOnce (group_count count g) (group_count count h) id
+  once count asked = subst (λ (f : List ℕ → ℕ). AskedOnce (group_count count g) f id) (again count) asked
 
   -- the group was asked once
   pub group_asked : (q : Question) → AllZip (AskedUpTo store q (g.retries + 1) id) g.stores h.stores → AskedUpTo (as_store store) q 1 id g h

@@ -1,12 +1,11 @@
 -- Questions to one store, and to stores in turn.
-use Rattle.std.proofs.Common.{◌≡◌, ◌≢◌, ℕ, zero, suc, ◌+◌, ◌≤◌, List, [], ◌∷◌, ◌++◌, length, IfSome, refl, sym, subst, ◌∙◌, arith}
+use Rattle.std.proofs.Common.{◌≡◌, ℕ, ◌+◌, ◌≤◌, List, [], ◌∷◌, refl, sym, subst, ◌∙◌, arith}
 use Rattle.std.specs.List.{AllZip}
 use Rattle.chunk_store.proofs.Said.{keeps_itself, keeps_on}
 use Rattle.chunk_store.proofs.Sends.{sends_on, sends_still}
 use Rattle.chunk_store.specs.declared.store.Store.{Ghosts as StoreWords}
 use Rattle.dsy_base.specs.Counts.{Rose}
-use Rattle.store_group.specs.Answers.{AnswersAt, AskedUpTo, Says, ask_for}
-use Rattle.store_group.specs.declared.answer.Answer.{Answer}
+use Rattle.store_group.specs.Answers.{AskedUpTo, ask_for}
 use Rattle.store_group.specs.declared.answer.Question.{Question}
 
 module _ {S : Type 0} (store : StoreWords S) (q : Question) (id : List ℕ) where

@@ -1,5 +1,5 @@
 -- What a store answers to one question, which may be asked several times, and what that leaves of the store.
-use Rattle.std.specs.Prelude.{◌≡◌, ◌≢◌, ◌⊎◌, ℕ, zero, suc, ◌+◌, ◌-◌, ◌<◌, ◌≤◌, List, [], ◌∷◌, length, take, drop, false}
+use Rattle.std.specs.Prelude.{◌≡◌, ◌≢◌, ◌⊎◌, ℕ, zero, suc, ◌+◌, ◌-◌, ◌<◌, ◌≤◌, List, ◌∷◌, length, take, drop, false}
 use Rattle.std.specs.Prelude.{Some, None, IfSome, IsTrue, is_some, Bool, Result, Ok, Err}
 use Rattle.std.specs.List.{AllZip}
 use Rattle.chunk_store.specs.Asks.{Ask, Get, Has, Sends}
@@ -15,7 +15,7 @@ use Rattle.store_group.specs.declared.answer.Answer.TheVariants as answer
 use Rattle.store_group.specs.declared.answer.Question.{Question}
 use Rattle.store_group.specs.declared.answer.Question.TheVariants as question
 
--- what the answers of a store are
+-- what `get` answers, as an answer to a question
 abbrev pub answer_to_get : Result ℕ GetFault → Answer
 answer_to_get (Ok n) = answer.Given n
 answer_to_get (Err get.Missing) = answer.Missing
@@ -23,6 +23,7 @@ answer_to_get (Err get.Longer) = answer.Longer
 answer_to_get (Err get.Failed) = answer.Failed
 answer_to_get (Err get.Memory) = answer.Memory
 
+-- and to the other question
 abbrev pub answer_to_has : Result Bool IoFault → Answer
 answer_to_has (Ok has) = answer.There has
 answer_to_has (Err io.Failed) = answer.Failed
@@ -42,14 +43,15 @@ ask_for question.Get id = Get id
 ask_for question.Has id = Has id
 
 module _ {S : Type 0} (store : StoreWords S) where
-  -- how often the store was asked this question for each id, and how often the other one
-  abbrev pub times_asked : Question → S → List ℕ → ℕ
-  times_asked question.Get = store.asked
-  times_asked question.Has = store.queried
+  -- how often the store was asked this question for each id
+  abbrev pub times_for : Question → S → List ℕ → ℕ
+  times_for question.Get = store.asked
+  times_for question.Has = store.queried
 
-  abbrev pub times_else : Question → S → List ℕ → ℕ
-  times_else question.Get = store.queried
-  times_else question.Has = store.asked
+  -- and how often the other one
+  abbrev pub times_other : Question → S → List ℕ → ℕ
+  times_other question.Get = store.queried
+  times_other question.Has = store.asked
 
   -- the store was asked the question for the id at most n times, and for nothing else
   pub record AskedUpTo (q : Question) (n : ℕ) (id : List ℕ) (s t : S) : Type 0 where
@@ -58,29 +60,30 @@ module _ {S : Type 0} (store : StoreWords S) where
     pub place : store.place t ≡ store.place s
     pub said : (x : List ℕ) → KeepsOf (store.said s) (store.said t) x
     pub sends : Sends (λ a. a ≡ ask_for q id) (store.sent s) (store.sent t)
-    pub this : times_asked q t id ≤ times_asked q s id + n
-    pub no_less : times_asked q s id ≤ times_asked q t id
-    pub others : (x : List ℕ) → x ≢ id → times_asked q t x ≡ times_asked q s x
-    pub stays : times_else q t ≡ times_else q s
+    pub this : times_for q t id ≤ times_for q s id + n
+    pub no_less : times_for q s id ≤ times_for q t id
+    pub others : (x : List ℕ) → x ≢ id → times_for q t x ≡ times_for q s x
+    pub stays : times_other q t ≡ times_other q s
     pub faults : store.faults s ≤ store.faults t
     -- each time but one comes after a failure
-    pub paid : raised (store.faults s) (times_asked q t id - (times_asked q s id + 1)) ≤ store.faults t
+    pub paid : raised (store.faults s) (times_for q t id - (times_for q s id + 1)) ≤ store.faults t
 
   -- what the store's answer says of it, s before and t after it, where the buffer then holds `out`
-  abbrev pub Says : Question → List ℕ → S → S → List ℕ → Answer → Type 0
-  Says question.Get id s t out (answer.Given n) = (n ≤ length out) × (store.said t).shown id (take n out)
+  abbrev pub AnswerSays : Question → List ℕ → S → S → List ℕ → Answer → Type 0
+  AnswerSays question.Get id s t out (answer.Given n) = (n ≤ length out) × (store.said t).shown id (take n out)
       × IfSome (store.holds s) (λ m. m id ≡ Some (take n out))
-  Says question.Get id s t out answer.Missing = (store.said t).denied id × IfSome (store.holds s) (λ m. m id ≡ None)
-  Says question.Get id s t out answer.Longer = (store.said t).longer id (length out)
+  AnswerSays question.Get id s t out answer.Missing = (store.said t).denied id
+      × IfSome (store.holds s) (λ m. m id ≡ None)
+  AnswerSays question.Get id s t out answer.Longer = (store.said t).longer id (length out)
       × IfSome (store.holds s) (λ m. (b : List ℕ) × (m id ≡ Some b) × (length out < length b))
-  Says question.Get id s t out (answer.There has) = ⊥
-  Says question.Has id s t out (answer.There has) = (has ≡ false → (store.said t).denied id)
+  AnswerSays question.Get id s t out (answer.There has) = ⊥
+  AnswerSays question.Has id s t out (answer.There has) = (has ≡ false → (store.said t).denied id)
       × IfSome (store.holds s) (λ m. has ≡ is_some (m id))
-  Says question.Has id s t out (answer.Given n) = ⊥
-  Says question.Has id s t out answer.Missing = ⊥
-  Says question.Has id s t out answer.Longer = ⊥
-  Says q id s t out answer.Failed = Unit {0}
-  Says q id s t out answer.Memory = IsTrue store.may_lack_memory
+  AnswerSays question.Has id s t out (answer.Given n) = ⊥
+  AnswerSays question.Has id s t out answer.Missing = ⊥
+  AnswerSays question.Has id s t out answer.Longer = ⊥
+  AnswerSays q id s t out answer.Failed = Unit {0}
+  AnswerSays q id s t out answer.Memory = IsTrue store.may_lack_memory
 
   -- the store failed in each of r + 1 calls
   abbrev pub FailsAll : ℕ → S → S → Type 0
@@ -88,7 +91,7 @@ module _ {S : Type 0} (store : StoreWords S) where
 
   -- the store of number k answered so, and didn't fail; each before it failed in r + 1 calls, and no other was asked
   abbrev pub AnswersFirst : Question → ℕ → List ℕ → ℕ → List S → List S → List ℕ → Answer → Type 0
-  AnswersFirst q r id zero (s ∷ old) (t ∷ new) out a = Says q id s t out a × (a ≢ answer.Failed) × (new ≡ old)
+  AnswersFirst q r id zero (s ∷ old) (t ∷ new) out a = AnswerSays q id s t out a × (a ≢ answer.Failed) × (new ≡ old)
   AnswersFirst q r id (suc k) (s ∷ old) (t ∷ new) out a = FailsAll r s t × AnswersFirst q r id k old new out a
   AnswersFirst q r id k old new out a = ⊥
 
@@ -103,6 +106,6 @@ module _ {S : Type 0} (store : StoreWords S) where
 
   -- the store of number k answered so, and didn't fail
   abbrev pub AnswersAt : Question → List ℕ → ℕ → List S → List S → List ℕ → Answer → Type 0
-  AnswersAt q id zero (s ∷ old) (t ∷ new) out a = Says q id s t out a × (a ≢ answer.Failed)
+  AnswersAt q id zero (s ∷ old) (t ∷ new) out a = AnswerSays q id s t out a × (a ≢ answer.Failed)
   AnswersAt q id (suc k) (s ∷ old) (t ∷ new) out a = AnswersAt q id k old new out a
   AnswersAt q id k old new out a = ⊥

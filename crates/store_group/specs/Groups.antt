@@ -1,16 +1,20 @@
 -- What contracts see of a group of stores, and what it says as one store. A group of one store tells what that store
 -- tells. Several stores tell nothing together, since any of them may answer.
-use Rattle.std.specs.Prelude.{◌≡◌, ◌⊎◌, ℕ, ◌+◌, ◌*◌, ◌/◌, ◌≤◌, List, [], ◌∷◌, ◌++◌, length, max, Option, Some, None}
-use Rattle.std.specs.Prelude.{IfSome, false}
+use Rattle.std.specs.Prelude.{◌≡◌, ◌≢◌, ◌⊎◌, ℕ, ◌+◌, ◌*◌, ◌/◌, ◌≤◌, List, [], ◌∷◌, ◌++◌, length, max, false}
+use Rattle.std.specs.Prelude.{Option, Some, None, IfSome}
 use Rattle.std.proofs.Common.{inl, inr, ap, arith, ◌∙◌}
 use Rattle.std.proofs.Math.Nat.{div-eq_of_lt}
-use Rattle.std.specs.List.{AllByRecursion}
+use Rattle.std.specs.List.{AllByRecursion, AllZip}
 use Rattle.chunk_store.specs.Asks.{Sent}
 use Rattle.chunk_store.specs.Folders.{chunks}
 use Rattle.chunk_store.specs.Said.{Said, SaysMap}
 use Rattle.chunk_store.specs.declared.store.Store.{Ghosts as StoreWords}
 use Rattle.dsy_base.specs.Counts.{raised}
 use Rattle.dsy_base.specs.Maps.{Map}
+use Rattle.store_group.specs.Answers.{AnswersRound, AskedUpTo, FailsAll, AnswerSays}
+use Rattle.store_group.specs.declared.answer.Answer.{Answer}
+use Rattle.store_group.specs.declared.answer.Answer.TheVariants as answer
+use Rattle.store_group.specs.declared.answer.Question.{Question}
 
 -- the stores in their order, the number of the one that is asked first, how often a call that fails is made again, and
 -- how often all stores have failed
@@ -60,13 +64,13 @@ abbrev pub questions_of : ℕ → ℕ → ℕ
 questions_of r calls = (calls + r) / (r + 1)
 
 -- how many questions for an id it takes at least until a store has been asked for it so often
-abbrev pub asked_of : {S : Type 0} → (S → List ℕ → ℕ) → Grouped S → List ℕ → ℕ
-asked_of count g id = most (λ s. questions_of g.retries (count s id)) g.stores
+abbrev pub group_count : {S : Type 0} → (S → List ℕ → ℕ) → Grouped S → List ℕ → ℕ
+group_count count g id = most (λ s. questions_of g.retries (count s id)) g.stores
 
 -- the places of the stores, each behind its length
-abbrev pub place_of : {S : Type 0} → (S → List ℕ) → List S → List ℕ
-place_of place [] = []
-place_of place (s ∷ stores) = length (place s) ∷ place s ++ place_of place stores
+abbrev pub group_place : {S : Type 0} → (S → List ℕ) → List S → List ℕ
+group_place place [] = []
+group_place place (s ∷ stores) = length (place s) ∷ place s ++ group_place place stores
 
 -- the group as one store. It has failed where all of its stores have
 abbrev pub as_store : {S : Type 0} → StoreWords S → StoreWords (Grouped S)
@@ -75,14 +79,27 @@ as_store store = record {
   folder = λ g. of_one store.folder g.stores;
   said = λ g. said_of store.said g.stores;
   sent = λ g. sent_of store.sent g.stores;
-  asked = asked_of store.asked;
-  queried = asked_of store.queried;
+  asked = group_count store.asked;
+  queried = group_count store.queried;
   faults = λ g. g.failed;
-  place = λ g. place_of store.place g.stores;
+  place = λ g. group_place store.place g.stores;
   tells = false;
   never_fails = false;
   may_lack_memory = store.may_lack_memory;
 }
+
+-- the group was asked the question for the id and answered so, where the buffer then holds `out`. One store was asked
+-- after the other, from the active one on, round the group. The one that didn't fail is the active one then
+pub record AsksGroup {S : Type 0} (store : StoreWords S) (q : Question) (id : List ℕ) (old new : Grouped S)
+    (out : List ℕ) (a : Answer) : Type 0 where
+  pub says : AnswerSays (as_store store) q id old new out a
+  pub asked : AskedUpTo (as_store store) q 1 id old new
+  pub turns : AllZip (AskedUpTo store q (old.retries + 1) id) old.stores new.stores
+  pub answered : a ≢ answer.Failed → (new.failed ≡ old.failed)
+      × AnswersRound store q old.retries id old.active new.active old.stores new.stores out a
+  pub failed : a ≡ answer.Failed → (new.failed ≡ raised old.failed 1) × (new.active ≡ old.active)
+      × AllZip (FailsAll store old.retries) old.stores new.stores
+  pub retries : new.retries ≡ old.retries
 
 -- ---- what each group keeps to
 
@@ -90,7 +107,8 @@ of_either : {A : Type 0} → A ⊎ ⊥ → A
 of_either (inl a) = a
 of_either (inr e) = absurd e
 
-says_same : {S : Type 0} (said : S → Said) (s : S) (m : Map (List ℕ)) → SaysMap (said s) m → SaysMap (said_of said (s ∷ [])) m
+says_same : {S : Type 0} (said : S → Said) (s : S) (m : Map (List ℕ)) → SaysMap (said s) m
+    → SaysMap (said_of said (s ∷ [])) m
 says_same said s m h = record {
   denied = λ id. (λ d. (h.denied id).0 (of_either d), λ e. inl ((h.denied id).1 e));
   shown = λ id b. (λ d. (h.shown id b).0 (of_either d), λ e. inl ((h.shown id b).1 e));
@@ -124,7 +142,8 @@ module _ {S : Type 0} (holds : S → Option (Map (List ℕ))) where
   none_asked count s r q none = ap (λ n. max (questions_of r n) 0) none ∙ ap (λ n. max n 0) (div-eq_of_lt (omega arith))
 
   unasked_at : (asked queried : S → List ℕ → ℕ)
-      → ((s : S) → IfSome (holds s) (λ _. (q : List ℕ) → (asked s q ≡ 0) × (queried s q ≡ 0))) → (r : ℕ) (stores : List S)
+      → ((s : S) → IfSome (holds s) (λ _. (q : List ℕ) → (asked s q ≡ 0) × (queried s q ≡ 0)))
+      → (r : ℕ) (stores : List S)
       → IfSome (of_one holds stores) (λ _. (q : List ℕ) → (most (λ s. questions_of r (asked s q)) stores ≡ 0)
       × (most (λ s. questions_of r (queried s q)) stores ≡ 0))
   unasked_at asked queried unasked r [] = tt
@@ -135,5 +154,5 @@ module _ {S : Type 0} (holds : S → Option (Map (List ℕ))) where
   -- a group that tells is asked for nothing that counts
   pub unasked_one : (asked queried : S → List ℕ → ℕ)
       → ((s : S) → IfSome (holds s) (λ _. (q : List ℕ) → (asked s q ≡ 0) × (queried s q ≡ 0))) → (g : Grouped S)
-      → IfSome (of_one holds g.stores) (λ _. (q : List ℕ) → (asked_of asked g q ≡ 0) × (asked_of queried g q ≡ 0))
+      → IfSome (of_one holds g.stores) (λ _. (q : List ℕ) → (group_count asked g q ≡ 0) × (group_count queried g q ≡ 0))
   unasked_one asked queried unasked g = unasked_at asked queried unasked g.retries g.stores

@@ -2,7 +2,7 @@
 
 ghost use Rattle.std.specs.Prelude.{◌≡◌, ◌≤◌, ◌+◌};
 ghost use Rattle.dsy_base.specs.Counts.{Rose, raised};
-ghost use Rattle.store_group.specs.Answers.{AskedUpTo, Says, answer_to_get, answer_to_has};
+ghost use Rattle.store_group.specs.Answers.{AskedUpTo, AnswerSays, answer_to_get, answer_to_has};
 
 use chunk_store::id::ChunkId;
 use chunk_store::store::{GetFault, Store};
@@ -52,7 +52,7 @@ fn answer_to_has(there: Result<bool, IoFault>) -> Answer
 
 // Asks for the chunk, once.
 fn get_once<S: Store>(store: &mut S, id: &ChunkId, out: &mut [u8]) -> Answer
-    ensures says { Says S.Store Question.Get id.now.0 store.old store.new out.new result }
+    ensures says { AnswerSays S.Store Question.Get id.now.0 store.old store.new out.new result }
     ensures asked { AskedUpTo S.Store Question.Get 1 id.now.0 store.old store.new }
     ensures failed { result ≡ Answer.Failed → Rose (S.faults store.old) (S.faults store.new) }
 {
@@ -62,7 +62,7 @@ fn get_once<S: Store>(store: &mut S, id: &ChunkId, out: &mut [u8]) -> Answer
 
 // Asks whether the store has the chunk, once.
 fn has_once<S: Store>(store: &mut S, id: &ChunkId, out: &mut [u8]) -> Answer
-    ensures says { Says S.Store Question.Has id.now.0 store.old store.new out.new result }
+    ensures says { AnswerSays S.Store Question.Has id.now.0 store.old store.new out.new result }
     ensures asked { AskedUpTo S.Store Question.Has 1 id.now.0 store.old store.new }
     ensures failed { result ≡ Answer.Failed → Rose (S.faults store.old) (S.faults store.new) }
 {
@@ -72,7 +72,7 @@ fn has_once<S: Store>(store: &mut S, id: &ChunkId, out: &mut [u8]) -> Answer
 
 // Asks the store once.
 fn ask_once<S: Store>(store: &mut S, question: Question, id: &ChunkId, out: &mut [u8]) -> Answer
-    ensures says { Says S.Store question id.now.0 store.old store.new out.new result }
+    ensures says { AnswerSays S.Store question id.now.0 store.old store.new out.new result }
     ensures asked { AskedUpTo S.Store question 1 id.now.0 store.old store.new }
     ensures failed { result ≡ Answer.Failed → Rose (S.faults store.old) (S.faults store.new) }
 {
@@ -90,7 +90,7 @@ pub(crate) fn ask<S: Store>(
     id: &ChunkId,
     out: &mut [u8],
 ) -> Answer
-    ensures says { Says S.Store question id.now.0 store.old store.new out.new result }
+    ensures says { AnswerSays S.Store question id.now.0 store.old store.new out.new result }
     ensures asked { AskedUpTo S.Store question (retries + 1) id.now.0 store.old store.new }
     ensures failed { result ≡ Answer.Failed → raised (S.faults store.old) (retries + 1) ≤ S.faults store.new }
 {

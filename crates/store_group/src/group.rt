@@ -1,10 +1,11 @@
 //! Groups of stores. A group is a store itself. Stores are numbered from 0.
 
-ghost use Rattle.std.specs.Prelude.{◌≡◌, ◌≢◌, ◌<◌, ◌≤◌, ◌+◌, length, vec_len};
+ghost use Rattle.std.specs.Prelude.{[], ◌≡◌, ◌≢◌, ◌<◌, ◌≤◌, ◌+◌, length, vec_len};
 ghost use Rattle.std.specs.List.{AllZip};
 ghost use Rattle.dsy_base.specs.Counts.{raised};
-ghost use Rattle.store_group.specs.Answers.{AnswersRound, AskedUpTo, FailsAll, IsAbout, Says, answer_to_get, answer_to_has};
-ghost use Rattle.store_group.specs.Groups.{Grouped, as_store};
+ghost use Rattle.store_group.specs.Answers.{AnswerSays, AnswersRound, AskedUpTo, FailsAll, IsAbout, answer_to_get};
+ghost use Rattle.store_group.specs.Answers.{answer_to_has};
+ghost use Rattle.store_group.specs.Groups.{AsksGroup, Grouped, as_store};
 
 use crate::answer::{Answer, Question};
 use crate::turns::ask_round;
@@ -39,6 +40,34 @@ impl<S: Store> Model for Group<S> {
     }) };
 }
 
+// What a call of `get` answers.
+fn got(answer: Answer) -> Result<usize, GetFault>
+    requires { IsAbout answer Question.Get }
+    ensures { answer_to_get result ≡ answer }
+{
+    match answer {
+        Answer::Given(n) => Ok(n),
+        Answer::Missing => Err(GetFault::Missing),
+        Answer::Longer => Err(GetFault::Longer),
+        Answer::Failed => Err(GetFault::Failed),
+        Answer::Memory => Err(GetFault::Memory),
+        Answer::There(_) => unreachable!(),
+    }
+}
+
+// What a call of `has` answers.
+fn there(answer: Answer) -> Result<bool, IoFault>
+    requires { IsAbout answer Question.Has }
+    ensures { answer_to_has result ≡ answer }
+{
+    match answer {
+        Answer::There(has) => Ok(has),
+        Answer::Failed => Err(IoFault::Failed),
+        Answer::Memory => Err(IoFault::Memory),
+        Answer::Given(_) | Answer::Missing | Answer::Longer => unreachable!(),
+    }
+}
+
 impl<S: Store> Group<S> {
     /// The first of the stores is active. A call that fails is made up to `retries` times more.
     pub fn new(stores: Vec<S>, retries: u32) -> Group<S>
@@ -69,7 +98,7 @@ impl<S: Store> Group<S> {
 
     // Asks the active store, and those after it where it fails, round the group.
     fn answer(&mut self, question: Question, id: &ChunkId, out: &mut [u8]) -> Answer
-        ensures says { Says (as_store S.Store) question id.now.0 self.old self.new out.new result }
+        ensures says { AnswerSays (as_store S.Store) question id.now.0 self.old self.new out.new result }
         ensures asked { AskedUpTo (as_store S.Store) question 1 id.now.0 self.old self.new }
         ensures turns { AllZip (AskedUpTo S.Store question (self.old.retries + 1) id.now.0) self.old.stores
             self.new.stores }
@@ -92,40 +121,28 @@ impl<S: Store> Group<S> {
             }
         }
     }
-}
 
-// What a call of `get` answers.
-fn got(answer: Answer) -> Result<usize, GetFault>
-    requires { IsAbout answer Question.Get }
-    ensures { answer_to_get result ≡ answer }
-{
-    match answer {
-        Answer::Given(n) => Ok(n),
-        Answer::Missing => Err(GetFault::Missing),
-        Answer::Longer => Err(GetFault::Longer),
-        Answer::Failed => Err(GetFault::Failed),
-        Answer::Memory => Err(GetFault::Memory),
-        Answer::There(_) => unreachable!(),
+    /// Fills the front of `out` with the bytes that the group gives under the id, and answers their number.
+    pub fn ask_for(&mut self, id: &ChunkId, out: &mut [u8]) -> Result<usize, GetFault>
+        ensures asked { AsksGroup S.Store Question.Get id.now.0 self.old self.new out.new (answer_to_get result) }
+    {
+        let answer = self.answer(Question::Get, id, out);
+        got(answer)
     }
-}
 
-// What a call of `has` answers.
-fn there(answer: Answer) -> Result<bool, IoFault>
-    requires { IsAbout answer Question.Has }
-    ensures { answer_to_has result ≡ answer }
-{
-    match answer {
-        Answer::There(has) => Ok(has),
-        Answer::Failed => Err(IoFault::Failed),
-        Answer::Memory => Err(IoFault::Memory),
-        Answer::Given(_) | Answer::Missing | Answer::Longer => unreachable!(),
+    /// Whether the group has something under the id.
+    pub fn ask_whether(&mut self, id: &ChunkId) -> Result<bool, IoFault>
+        ensures asked { AsksGroup S.Store Question.Has id.now.0 self.old self.new [] (answer_to_has result) }
+    {
+        let answer = self.answer(Question::Has, id, &mut []);
+        there(answer)
     }
 }
 
 impl<S: Store> Store for Group<S> {
     ghost use Rattle.std.specs.Prelude.{false};
     ghost use Rattle.std.proofs.Common.{rules};
-    ghost use Rattle.store_group.specs.Groups.{asked_of, of_one, place_of, said_of, sent_of};
+    ghost use Rattle.store_group.specs.Groups.{group_count, of_one, group_place, said_of, sent_of};
     ghost use Rattle.store_group.specs.Groups.{lies_one, says_one, unasked_one};
 
     ghost holds = { λ g. of_one S.holds g.stores };
@@ -136,13 +153,13 @@ impl<S: Store> Store for Group<S> {
 
     ghost sent = { λ g. sent_of S.sent g.stores };
 
-    ghost asked = { λ g. asked_of S.asked g };
+    ghost asked = { λ g. group_count S.asked g };
 
-    ghost queried = { λ g. asked_of S.queried g };
+    ghost queried = { λ g. group_count S.queried g };
 
     ghost faults = { λ g. g.failed };
 
-    ghost place = { λ g. place_of S.place g.stores };
+    ghost place = { λ g. group_place S.place g.stores };
 
     ghost tells = { false };
 
@@ -151,13 +168,11 @@ impl<S: Store> Store for Group<S> {
     ghost may_lack_memory = { S.may_lack_memory };
 
     fn get(&mut self, id: &ChunkId, out: &mut [u8]) -> Result<usize, GetFault> {
-        let answer = self.answer(Question::Get, id, out);
-        got(answer)
+        self.ask_for(id, out)
     }
 
     fn has(&mut self, id: &ChunkId) -> Result<bool, IoFault> {
-        let answer = self.answer(Question::Has, id, &mut []);
-        there(answer)
+        self.ask_whether(id)
     }
 
     ghost says = { λ g. says_one S.holds S.said S.says g.stores };

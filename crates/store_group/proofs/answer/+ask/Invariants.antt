@@ -1,4 +1,3 @@
-use Rattle.std.proofs.Common.{ℕ}
 use Rattle.store_group.proofs.answer.+ask.Given as goal
 
 abbrev pub decreases-ask : goal.decreases-ask

@@ -1,8 +1,8 @@
-use Rattle.std.proofs.Common.{◌≡◌, ◌<◌, ◌+◌, ℕ, List, length, refl, sym, subst, ◌∙◌, arith}
+use Rattle.std.proofs.Common.{◌<◌, ◌+◌, ℕ, List, length, refl, sym, subst, arith}
 use Rattle.std.specs.List.{AllZip}
 use Rattle.std.proofs.lemmas.List.{with_items_is}
 use Rattle.std.specs.Vec.{with_items}
-use Rattle.store_group.specs.Answers.{AnswersAt, AskedUpTo, FailsAll, Says}
+use Rattle.store_group.specs.Answers.{AnswersAt, AskedUpTo, FailsAll, AnswerSays}
 use Rattle.store_group.specs.Groups.{CountsFailures, Grouped, as_store}
 use Rattle.store_group.proofs.Groups.{answers_unfailed, failures_more, failures_still, group_asked, group_says}
 use Rattle.store_group.proofs.group.Group.answer.Goals as goal
@@ -35,8 +35,8 @@ returns-in-Some-clause-says g c =
     let new = left c.ask_round.new.stores c.in-Some.number c.self.inside.retries c.self.inside.failed in
     let at = subst (λ (l : List g.row.S.Denot). AnswersAt g.S.Store c.args.question c.args.id.now.0 c.in-Some.number l c.ask_round.new.stores c.ask_round.new.out c.in-Some.answer) c.as_mut_slice-stores.ensures.value c.in-Some.ensures.at in
     let says = group_says g.S.Store c.args.id.now.0 c.ask_round.new.out old new c.args.question c.in-Some.answer c.in-Some.number at in
-    subst (λ (v : Grouped g.row.S.Denot). Says (as_store g.S.Store) c.args.question c.args.id.now.0 v (left (with_items c.self.inside.stores c.ask_round.new.stores).items c.in-Some.number c.self.inside.retries c.self.inside.failed) c.ask_round.new.out c.in-Some.answer) c.self.view_is
-    (subst (λ (l : List g.row.S.Denot). Says (as_store g.S.Store) c.args.question c.args.id.now.0 old (left l c.in-Some.number c.self.inside.retries c.self.inside.failed) c.ask_round.new.out c.in-Some.answer) (sym kept) says)
+    subst (λ (v : Grouped g.row.S.Denot). AnswerSays (as_store g.S.Store) c.args.question c.args.id.now.0 v (left (with_items c.self.inside.stores c.ask_round.new.stores).items c.in-Some.number c.self.inside.retries c.self.inside.failed) c.ask_round.new.out c.in-Some.answer) c.self.view_is
+    (subst (λ (l : List g.row.S.Denot). AnswerSays (as_store g.S.Store) c.args.question c.args.id.now.0 old (left l c.in-Some.number c.self.inside.retries c.self.inside.failed) c.ask_round.new.out c.in-Some.answer) (sym kept) says)
 
 pub returns-in-Some-clause-asked : goal.returns-in-Some-clause-asked
 returns-in-Some-clause-asked g c =
