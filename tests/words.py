@@ -297,7 +297,7 @@ def random_value(chance, option):
     if kind == 'digest':
         return chance.choice(['sha512-256', 'sha512/256', 'sha512', 'SHA256', 'sha-256', 'sha256 ', 'md5', '', '--'])
     if kind == 'bytes':
-        return chance.choice(['0', '7', '18446744073709551615', '18446744073709551616', '', '07', '+1', '-1', 'x', '--'])
+        return chance.choice(['0', '7', '18446744073709551615', '18446744073709551616', '', '07', '+1', '-1', '--'])
     return chance.choice(['near', '', '--', '-c', '/a'])
 
 
