@@ -7,8 +7,8 @@ ghost use Rattle.command_help.specs.Help.{help_text};
 ghost use Rattle.dsy_base.specs.Counts.{CountsFaults};
 
 use crate::texts::{
-    CACHE, CHOP, CHUNK_SERVER, DEMO, EXTRACT, HELP, INFO, LIST_CHUNKS, MAKE, PRUNE, VERIFY,
-    VERIFY_INDEX, VERSION,
+    CACHE, CAT, CHOP, CHUNK_SERVER, DEMO, EXTRACT, HELP, INDEX_SERVER, INFO, LIST_CHUNKS, MAKE,
+    PRUNE, VERIFY, VERIFY_INDEX, VERSION,
 };
 use command_words::option_table::CommandKind;
 use dsy_base::fault::IoFault;
@@ -29,6 +29,7 @@ fn command_text(kind: CommandKind) -> &'static str
     match kind {
         CommandKind::Make => MAKE,
         CommandKind::Extract => EXTRACT,
+        CommandKind::Cat => CAT,
         CommandKind::VerifyIndex => VERIFY_INDEX,
         CommandKind::Chop => CHOP,
         CommandKind::Cache => CACHE,
@@ -37,6 +38,7 @@ fn command_text(kind: CommandKind) -> &'static str
         CommandKind::Verify => VERIFY,
         CommandKind::Prune => PRUNE,
         CommandKind::ChunkServer => CHUNK_SERVER,
+        CommandKind::IndexServer => INDEX_SERVER,
         CommandKind::Demo => DEMO,
     }
 }

@@ -13,6 +13,8 @@ desync keeps images as chunks in a store, and an index of each image.
   desync extract [-k] -s STORE.. [-c CACHE] [--seed INDEX..] [-n WORKERS]
       INDEX OUT
       make a file the image that an index lists
+  desync cat -s STORE.. [-o OFFSET] [-l LENGTH] INDEX
+      print bytes of the image that an index lists
   desync verify-index [-n WORKERS] INDEX IMAGE
       check that a file is the image that an index lists
   desync chop -s STORE [-n WORKERS] INDEX IMAGE
@@ -29,11 +31,14 @@ desync keeps images as chunks in a store, and an index of each image.
       remove the chunks of a store that no index lists
   desync chunk-server -s FOLDER -l HOST:PORT [-w] [-n WORKERS] [--digest KIND]
       serve the chunks of a store over HTTP
+  desync index-server -s FOLDER -l HOST:PORT [-w]
+      serve the indexes of a folder over HTTP
   desync demo [-n WORKERS] [--digest KIND] NUMBER SIZE
       make, store and extract an image in memory, and print what that took
 
 Options and names may be mixed; `--` ends options. STORE is a folder or an http
-URL; MIN, AVG and MAX are sizes in KiB; KIND is sha512-256 or sha256.
+URL; INDEX is a file or, but for `make` and `--seed`, an http URL; MIN, AVG and
+MAX are sizes in KiB; KIND is sha512-256 or sha256.
 
 `desync COMMAND --help` tells more of a command, `desync --version` the version.
 ";
@@ -67,7 +72,8 @@ usage: desync extract [-k] -s STORE.. [-c CACHE] [--seed INDEX..] [-n WORKERS]
 
 Makes the file OUT the image that INDEX lists: by way of a temporary file,
 OUT.tmp-desync, which takes OUT's name once it is right; or with -k in place,
-and what OUT holds already is kept where it is right.
+and what OUT holds already is kept where it is right. INDEX is a file, or the
+http URL of one.
 
   -k, --in-place                write OUT in place
   -s, --store STORE             a folder of chunks, or an http URL where they
@@ -83,11 +89,29 @@ and what OUT holds already is kept where it is right.
 example: desync extract -k -s near -s chunks disk.caibx disk.img
 ";
 
+/// The text of `cat --help`.
+pub const CAT: &str = "\
+usage: desync cat -s STORE.. [-o OFFSET] [-l LENGTH] INDEX
+
+Prints the bytes of the image that INDEX lists from OFFSET on, at most LENGTH of
+them, without assembling the image. INDEX is a file, or the http URL of one.
+
+  -s, --store STORE             a folder of chunks, or an http URL where they
+                                lie; 1 to 16, asked in order
+  -o, --offset OFFSET           the bytes to leave out, 0 if not given; past the
+                                end nothing is printed
+  -l, --length LENGTH           the most bytes to print; all that follow if not
+                                given
+
+example: desync cat -s chunks -o 1048576 -l 512 disk.caibx
+";
+
 /// The text of `verify-index --help`.
 pub const VERIFY_INDEX: &str = "\
 usage: desync verify-index [-n WORKERS] INDEX IMAGE
 
 Checks that IMAGE is the image that INDEX lists: its length, then each chunk.
+INDEX is a file, or the http URL of one.
 
   -n, --concurrency WORKERS     1 to 32 workers to read IMAGE, 10 if not given;
                                 the outcome is the same with any number
@@ -100,7 +124,8 @@ pub const CHOP: &str = "\
 usage: desync chop -s STORE [-n WORKERS] INDEX IMAGE
 
 Puts the chunks of IMAGE that INDEX lists into the store, up to the first that
-isn't IMAGE's. What the store holds already is left where it is right.
+isn't IMAGE's. What the store holds already is left where it is right. INDEX is
+a file, or the http URL of one.
 
   -s, --store STORE             a folder, or an http URL, that takes the chunks
   -n, --concurrency WORKERS     1 to 32 workers to read IMAGE, 10 if not given;
@@ -115,7 +140,7 @@ usage: desync cache -s STORE.. -c CACHE [-n WORKERS] INDEX..
 
 Copies the chunks that each INDEX lists from the stores into a cache, index by
 index, up to the first that no store gives. What the cache holds already is left
-where it is right.
+where it is right. An INDEX is a file, or the http URL of one.
 
   -s, --store STORE             a folder of chunks, or an http URL where they
                                 lie; 1 to 16, asked in order
@@ -131,7 +156,8 @@ pub const LIST_CHUNKS: &str = "\
 usage: desync list-chunks INDEX
 
 Prints the id of each chunk that INDEX lists, a line each, in the order of the
-image and as often as it stands there. There are no options.
+image and as often as it stands there. INDEX is a file, or the http URL of one.
+There are no options.
 
 example: desync list-chunks disk.caibx
 ";
@@ -142,7 +168,8 @@ usage: desync info [-s STORE..] INDEX
 
 Prints a line of JSON: the average, greatest and least size of chunks and the
 size of the image, in bytes, and the numbers of chunks in all, of different ones
-and, where stores are given, of those that some store has.
+and, where stores are given, of those that some store has. INDEX is a file, or
+the http URL of one.
 
   -s, --store STORE             a folder of chunks, or an http URL where they
                                 lie; 0 to 16, asked in order
@@ -172,7 +199,8 @@ pub const PRUNE: &str = "\
 usage: desync prune -s FOLDER -y INDEX..
 
 Reads each INDEX, then removes the chunks of the store that none of them lists,
-and temporary files. All other files stay.
+and temporary files. All other files stay. An INDEX is a file, or the http URL
+of one.
 
   -s, --store FOLDER            the store
   -y, --yes                     they are removed for good
@@ -197,6 +225,22 @@ Nobody is asked who they are: listen at localhost, or put a proxy in front.
                                 not given, or sha256, as `make` was told
 
 example: desync chunk-server -s chunks -l localhost:8080
+";
+
+/// The text of `index-server --help`.
+pub const INDEX_SERVER: &str = "\
+usage: desync index-server -s FOLDER -l HOST:PORT [-w]
+
+Serves the indexes of a folder over HTTP, one connection after the other, until
+it is killed: those whose names end in `.caibx`, as /disk.caibx. What isn't an
+index is neither given nor taken.
+Nobody is asked who they are: listen at localhost, or put a proxy in front.
+
+  -s, --store FOLDER            the folder of indexes
+  -l, --listen HOST:PORT        the address; no HOST means all addresses
+  -w, --writeable               take indexes too
+
+example: desync index-server -s indexes -l localhost:8081
 ";
 
 /// The text of `demo --help`.

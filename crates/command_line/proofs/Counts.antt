@@ -6,17 +6,19 @@ use Rattle.std.proofs.lemmas.List.{take_all}
 use Rattle.std.proofs.lemmas.List.Sums.{sum_by_push}
 use Rattle.std.specs.List.{starts_with}
 use Rattle.std.specs.Str.{bytes_eq}
+use Rattle.command_line.specs.declared.judge.Refusal.{Refusal}
 use Rattle.command_line.specs.declared.judge.Refusal.TheVariants as refusal
-use Rattle.command_line.specs.Judging.{unless, name_refusal, name_operand_refusal, demo_operand_refusal, refusal_of, refusal_at, first_refused, fault_at, fault_by, judged}
+use Rattle.command_line.specs.Judging.{unless, name_operand_refusal, demo_operand_refusal, refusal_of, refusal_at, first_refused, fault_at, fault_by, judged}
 use Rattle.command_words.specs.declared.option_table.CommandKind.{CommandKind}
 use Rattle.command_words.specs.declared.option_table.OptionKind.{OptionKind}
 use Rattle.command_words.specs.declared.option_table.OptionKind.TheVariants as option
+use Rattle.command_words.specs.declared.option_table.Takes.{Takes}
 use Rattle.command_words.specs.declared.roles.Role.{Role}
 use Rattle.command_words.specs.declared.roles.Role.TheVariants as role
 use Rattle.command_words.specs.declared.usage.UsageWhy.{UsageWhy}
 use Rattle.command_words.specs.declared.usage.WordsFault.{WordsFault}
-use Rattle.command_words.specs.OptionTable.{option_number, takes_value, times_of, takes_of}
-use Rattle.command_words.specs.Roles.{option_of, option_role, opens, awaited, times_of_role, role_number, spelled_role, role_of, roles_of}
+use Rattle.command_words.specs.OptionTable.{option_named, option_number, takes_value, times_of, takes_of}
+use Rattle.command_words.specs.Roles.{option_role, opens, awaited, times_of_role, role_number, spelled_role, role_of, roles_of}
 use Rattle.command_line.proofs.Following.{awaited_after, found, missed, is_none, is_one}
 use Rattle.command_line.proofs.Judged.{Pass, roles_more}
 
@@ -34,7 +36,9 @@ option_at n =
     else (if n == 7 then option.Yes
     else (if n == 8 then option.Listen
     else (if n == 9 then option.Writable
-    else option.Digest)))))))))
+    else (if n == 10 then option.Digest
+    else (if n == 11 then option.Offset
+    else option.Length)))))))))))
 
 at_number : (o : OptionKind) → option_at (option_number o) ≡ o
 unfolding option_at
@@ -49,6 +53,8 @@ at_number option.Yes = refl
 at_number option.Listen = refl
 at_number option.Writable = refl
 at_number option.Digest = refl
+at_number option.Offset = refl
+at_number option.Length = refl
 
 same_option : (p o : OptionKind) → option_number p ≡ option_number o → p ≡ o
 same_option p o e = sym (at_number p) ∙ ap option_at e ∙ at_number o
@@ -60,12 +66,19 @@ given_is role.Operand o e = absurd (omega (arith, e))
 given_is (role.Given p) o e = ap role.Given (same_option p o (omega (arith, e)))
 given_is (role.Value p) o e = absurd (omega (arith, e))
 
-operand_is : (r : Role) → role_number r ≡ role_number role.Operand → r ≡ role.Operand
+pub operand_is : (r : Role) → role_number r ≡ role_number role.Operand → r ≡ role.Operand
 operand_is role.Dashes e = absurd (omega (arith, e))
 operand_is role.Unknown e = absurd (omega (arith, e))
 operand_is role.Operand e = refl
 operand_is (role.Given p) e = absurd (omega (arith, e))
 operand_is (role.Value p) e = absurd (omega (arith, e))
+
+pub value_is : (r : Role) (o : OptionKind) → role_number r ≡ role_number (role.Value o) → r ≡ role.Value o
+value_is role.Dashes o e = absurd (omega (arith, e))
+value_is role.Unknown o e = absurd (omega (arith, e))
+value_is role.Operand o e = absurd (omega (arith, e))
+value_is (role.Given p) o e = absurd (omega (arith, e))
+value_is (role.Value p) o e = ap role.Value (same_option p o (omega (arith, e)))
 
 -- ---- one more role
 
@@ -99,13 +112,15 @@ along_all k words P none more pass =
 
 -- ---- no option and no operand stands more often than it may
 
-is_right : (b : Bool) (y : UsageWhy) → unless b y ≡ None → b ≡ true
+pub is_right : (b : Bool) (y : UsageWhy) → unless b y ≡ None → b ≡ true
 is_right true y e = refl
 is_right false y e = absurd (none-some (refusal.Why y) (sym e))
 
-named_right : (empty b : Bool) (y : UsageWhy) → name_refusal empty b y ≡ None → b ≡ true
-named_right true b y e = absurd (none-some _ (sym e))
-named_right false b y e = is_right b y e
+-- a name that is an operand passes where it isn't empty, isn't too many, and passes as what it names
+pub named_right : (empty few : Bool) (named : Option Refusal) (x y : Refusal) → (if empty then Some x else (if few then named else Some y)) ≡ None → (few ≡ true) × (named ≡ None)
+named_right true few named x y e = absurd (none-some x (sym e))
+named_right false true named x y e = (refl, e)
+named_right false false named x y e = absurd (none-some y (sym e))
 
 at_most : (q r : Role) (roles : List Role) (most : ℕ) → times_of_role q roles ≤ most → (role_number r ≡ role_number q → times_of_role q roles < most) → times_of_role q (roles ++ r ∷ []) ≤ most
 at_most q r roles most le lt = elim (cases_eq (role_number r) (role_number q)) [
@@ -119,15 +134,15 @@ options_bounded k words o = along_all k words (λ roles. times_of_role (role.Giv
     let ok : refusal_of k before (role.Given o) w ≡ None = subst (λ q. refusal_of k before q w ≡ None) (given_is r o same) ok in
     ltb-true _ _ (is_right _ _ ok)))
 
-few_operands : (k : CommandKind) (n : ℕ) (w : List ℕ) (b : Bool) → b ≡ false → (if b then demo_operand_refusal n w else name_operand_refusal k n w) ≡ None → n < (takes_of k).operands.greatest
-few_operands k n w true named e = absurd (true≢false named)
-few_operands k n w false named e = ltb-true _ _ (named_right _ _ _ e)
+few_operands : (takes : Takes) (n : ℕ) (w : List ℕ) (b : Bool) → b ≡ false → (if b then demo_operand_refusal n w else name_operand_refusal takes n w) ≡ None → n < takes.operands.greatest
+few_operands takes n w true named e = absurd (true≢false named)
+few_operands takes n w false named e = ltb-true _ _ (named_right _ _ _ _ _ e).0
 
 pub operands_bounded : (k : CommandKind) (words : List (List ℕ)) → (takes_of k).takes_numbers ≡ false → Pass k words (length words) → times_of_role role.Operand (roles_of k words) ≤ (takes_of k).operands.greatest
 operands_bounded k words names = along_all k words (λ roles. times_of_role role.Operand roles ≤ (takes_of k).operands.greatest) (omega arith)
     (λ before w ok le. let r = role_of k before w in at_most role.Operand r before (takes_of k).operands.greatest le (λ same.
     let ok : refusal_of k before role.Operand w ≡ None = subst (λ q. refusal_of k before q w ≡ None) (operand_is r same) ok in
-    few_operands k (times_of_role role.Operand before) w (takes_of k).takes_numbers names ok))
+    few_operands (takes_of k) (times_of_role role.Operand before) w (takes_of k).takes_numbers names ok))
 
 -- ---- an option with a value has one
 
@@ -155,9 +170,9 @@ spelled_option (Some o) = tt
 
 spelled : (k : CommandKind) (w : List ℕ) → IsSpelled (spelled_role k w)
 spelled k w =
-    let named = option_role (option_of k w) in
+    let named = option_role (option_named k w) in
     let dashed = starts_with nat_eq w (codes "-") in
-    spelled_if (bytes_eq w (codes "--")) role.Dashes (if dashed then named else role.Operand) tt (spelled_if dashed named role.Operand (spelled_option (option_of k w)) tt)
+    spelled_if (bytes_eq w (codes "--")) role.Dashes (if dashed then named else role.Operand) tt (spelled_if dashed named role.Operand (spelled_option (option_named k w)) tt)
 
 waits_one : (o p : OptionKind) → option_number p ≡ option_number o → waits o (Some p) ≡ 1
 unfolding waits

@@ -4,3 +4,4 @@ pub mod Judged
 pub mod Limits
 pub mod Lists
 pub mod NoRoom
+pub mod Passing

@@ -1,30 +1,37 @@
--- The commands that words say keep the limits of the table of options.
-use Rattle.std.proofs.Common.{◌≡◌, ◌≤◌, ℕ, ◌+◌, ◌*◌, ◌-◌, ◌&&◌, ◌||◌, Bool, true, false, List, [], ◌∷◌, length, nat_lt, nat_le, codes, if◌then◌else◌, Option, Some, None, unwrap_or, Result, Ok, Err, IfOk, refl, sym, ap, subst, ◌∙◌, arith}
+-- The commands that words say keep the limits of the table of options, and each index has a place.
+use Rattle.std.proofs.Common.{◌≡◌, ◌<◌, ◌≤◌, ℕ, All, not, ◌+◌, ◌*◌, ◌-◌, ◌&&◌, ◌||◌, Bool, true, false, List, [], ◌∷◌, length, nat_lt, nat_le, codes, if◌then◌else◌, Option, Some, None, unwrap_or, Result, Ok, Err, IfOk, refl, sym, ap, subst, ◌∙◌, arith}
 use Rattle.std.specs.Char.{is_ascii_digit}
-use Rattle.std.proofs.lemmas.Bool.{leb-true, ltb-false}
+use Rattle.std.proofs.lemmas.Bool.{cond-true, leb-true, lt-ltb, ltb-false, true≢false}
 use Rattle.std.proofs.lemmas.Option.{none-some}
 use Rattle.std.proofs.lemmas.List.{length-map}
+use Rattle.std.proofs.lemmas.List.Elements.{All-from_get_or}
 use Rattle.command_line.specs.CommandLine.{command_by, command_line, command_by_roles, command_or_help, command_with, complete, is_alone, number, operand, read_location, stores, ReadsWords}
-use Rattle.command_line.specs.Judging.{judged, lacks, missing_words}
+use Rattle.command_line.specs.Judging.{demo_operand_refusal, index_refusal, is_empty, judged, lacks, missing_words, name_operand_refusal, name_refusal, operand_refusal, place_refusal, value_refusal}
+use Rattle.command_line.specs.declared.judge.Refusal.{Refusal}
 use Rattle.command_words.specs.declared.command.Command.{Command}
 use Rattle.command_words.specs.declared.command.Command.TheVariants as said
+use Rattle.command_words.specs.declared.location.IndexPlace.{IndexPlace}
+use Rattle.command_words.specs.declared.location.NoLocation.{NoLocation}
+use Rattle.command_words.specs.declared.location.NoLocation.TheVariants as no
 use Rattle.command_words.specs.declared.option_table.CommandKind.{CommandKind}
 use Rattle.command_words.specs.declared.option_table.CommandKind.TheVariants as command
 use Rattle.command_words.specs.declared.option_table.OptionKind.{OptionKind}
 use Rattle.command_words.specs.declared.option_table.OptionKind.TheVariants as option
+use Rattle.command_words.specs.declared.option_table.Takes.{Takes}
 use Rattle.command_words.specs.declared.roles.Role.{Role}
 use Rattle.command_words.specs.declared.roles.Role.TheVariants as role
 use Rattle.command_words.specs.declared.usage.UsageWhy.{UsageWhy}
 use Rattle.command_words.specs.declared.usage.UsageWhy.TheVariants as why
 use Rattle.command_words.specs.declared.usage.WordsFault.{WordsFault}
 use Rattle.command_words.specs.Limits.{Fits}
-use Rattle.command_words.specs.Locations.{location_of}
-use Rattle.command_words.specs.OptionTable.{times, names, folder_and_names, command_named, takes_of, takes_value, times_of, command_rows, option_rows}
-use Rattle.command_words.specs.Roles.{by_role, times_of_role, words_as}
-use Rattle.command_words.specs.Values.{number_in_word, number_up_to, with_digit, with_digits}
-use Rattle.command_line.proofs.Counts.{Passes, judged_right, operands_bounded, options_bounded, values_counted}
+use Rattle.command_words.specs.Locations.{location_of, index_place_of, is_index_url, NamesIndex}
+use Rattle.command_words.specs.OptionTable.{times, names, folder_and_indexes, written_index, command_named, takes_of, takes_value, times_of, command_rows, option_rows}
+use Rattle.command_words.specs.Roles.{by_role, times_of_role, words_as, word_as}
+use Rattle.command_words.specs.Values.{ends_in_caibx, is_seed, number_in_word, number_up_to, with_digit, with_digits}
+use Rattle.command_line.proofs.Counts.{Passes, is_right, judged_right, named_right, operands_bounded, options_bounded, values_counted}
 use Rattle.command_line.proofs.Following.{roles_length}
 use Rattle.command_line.proofs.Lists.{words_counted}
+use Rattle.command_line.proofs.Passing.{operands_pass, values_pass}
 
 -- ---- the rows that limit
 
@@ -44,11 +51,43 @@ stores_of_info : times_of command.Info option.Store ≡ times 0 16
 unfolding times_of command_rows
 stores_of_info = refl
 
-names_of_cache : takes_of command.Cache ≡ names 1 64
+stores_of_cat : times_of command.Cat option.Store ≡ times 1 16
+unfolding times_of command_rows
+stores_of_cat = refl
+
+names_of_make : takes_of command.Make ≡ written_index
+unfolding takes_of command_rows
+names_of_make = refl
+
+names_of_extract : takes_of command.Extract ≡ names 2 2 1
+unfolding takes_of command_rows
+names_of_extract = refl
+
+names_of_cat : takes_of command.Cat ≡ names 1 1 1
+unfolding takes_of command_rows
+names_of_cat = refl
+
+names_of_verify_index : takes_of command.VerifyIndex ≡ names 2 2 1
+unfolding takes_of command_rows
+names_of_verify_index = refl
+
+names_of_chop : takes_of command.Chop ≡ names 2 2 1
+unfolding takes_of command_rows
+names_of_chop = refl
+
+names_of_cache : takes_of command.Cache ≡ names 1 64 64
 unfolding takes_of command_rows
 names_of_cache = refl
 
-names_of_prune : takes_of command.Prune ≡ folder_and_names 1 64
+names_of_list_chunks : takes_of command.ListChunks ≡ names 1 1 1
+unfolding takes_of command_rows
+names_of_list_chunks = refl
+
+names_of_info : takes_of command.Info ≡ names 1 1 1
+unfolding takes_of command_rows
+names_of_info = refl
+
+names_of_prune : takes_of command.Prune ≡ folder_and_indexes 1 64
 unfolding takes_of command_rows
 names_of_prune = refl
 
@@ -79,6 +118,8 @@ record Counts (k : CommandKind) (roles : List Role) (words : List (List ℕ)) : 
   operands_least : (takes_of k).operands.least ≤ times_of_role role.Operand roles
   operands_greatest : (takes_of k).takes_numbers ≡ false → times_of_role role.Operand roles ≤ (takes_of k).operands.greatest
   as_many : (r : Role) → length (words_as r roles words) ≡ times_of_role r roles
+  operands_pass : (i : ℕ) → i < times_of_role role.Operand roles → operand_refusal k i (word_as role.Operand i roles words) ≡ None
+  values_pass : (o : OptionKind) (i : ℕ) → i < times_of_role (role.Value o) roles → value_refusal k o (word_as (role.Value o) i roles words) ≡ None
 
 counts : (k : CommandKind) (words : List (List ℕ)) (roles : List Role) → Passes k words roles → missing_words k roles ≡ None → Counts k roles words
 counts k words roles p none =
@@ -91,6 +132,8 @@ counts k words roles p none =
       operands_least = omega (arith, ltb-false _ _ enough.1);
       operands_greatest = λ names. subst (λ r. times_of_role role.Operand r ≤ (takes_of k).operands.greatest) (sym p.roles_are) (operands_bounded k words names p.pass);
       as_many = λ r. words_counted r roles words (ap length p.roles_are ∙ roles_length k words);
+      operands_pass = subst (λ r. (i : ℕ) → i < times_of_role role.Operand r → operand_refusal k i (word_as role.Operand i r words) ≡ None) (sym p.roles_are) (operands_pass k words p.pass);
+      values_pass = λ o. subst (λ r. (i : ℕ) → i < times_of_role (role.Value o) r → value_refusal k o (word_as (role.Value o) i r words) ≡ None) (sym p.roles_are) (values_pass k words o p.pass);
     }
 
 stores_counted : (k : CommandKind) (roles : List Role) (words : List (List ℕ)) → Counts k roles words → length (stores (by_role roles words)) ≡ times_of_role (role.Value option.Store) roles
@@ -138,33 +181,117 @@ unwrapped most (Some n) small = small n refl
 number_bounded : (most : ℕ) (w : List ℕ) → number most w ≤ most
 number_bounded most w = unwrapped most (number_in_word 0 most w) (λ n. from_by 0 most n (number_up_to most w) (λ m. else_by most m _ (with_digits most 0 w) (λ d. digits_bounded most 0 d w (omega arith))))
 
+-- ---- the place of an index
+
+placed : (place : Result IndexPlace NoLocation) → place_refusal place ≡ None → place ≡ Err no.Bad → ⊥
+placed (Ok p) e bad = absurd cc
+placed (Err no.Bad) e bad = absurd (none-some _ (sym e))
+placed (Err no.Memory) e bad = absurd (none-some _ (sym e))
+
+-- an index that is read, or is written
+Names : Bool → List ℕ → Type 0
+Names true w = is_index_url w ≡ false
+Names false w = NamesIndex w
+
+not_true : (b : Bool) → not b ≡ true → b ≡ false
+not_true true e = absurd (true≢false (sym e))
+not_true false e = refl
+
+index_by : (is_written : Bool) (w : List ℕ) → index_refusal is_written w ≡ None → Names is_written w
+unfolding Names
+index_by true w e = not_true (is_index_url w) (is_right (not (is_index_url w)) _ e)
+index_by false w e = placed (index_place_of w) e
+
+-- an operand that passes as one of the first, which are indexes
+named : (takes : Takes) (i : ℕ) (w : List ℕ) (numbers : Bool) → numbers ≡ false → i < takes.indexes
+    → (if numbers then demo_operand_refusal i w else name_operand_refusal takes i w) ≡ None → Names takes.writes_index w
+named takes i w true is lt e = absurd (true≢false is)
+named takes i w false is lt e = index_by takes.writes_index w (sym (cond-true _ _ _ (lt-ltb _ _ lt)) ∙ (named_right _ _ _ _ _ e).1)
+
+-- the command's operands from the first on are indexes, which it reads or writes
+index_at : (k : CommandKind) (roles : List Role) (words : List (List ℕ)) (takes : Takes) (i : ℕ) → Counts k roles words → takes_of k ≡ takes → takes.takes_numbers ≡ false
+    → i < takes.indexes → i < times_of_role role.Operand roles → Names takes.writes_index (word_as role.Operand i roles words)
+index_at k roles words takes i c is numbers lt few =
+    let w = word_as role.Operand i roles words in
+    named takes i w takes.takes_numbers numbers lt
+    (subst (λ t. (if t.takes_numbers then demo_operand_refusal i w else name_operand_refusal t i w) ≡ None) is (c.operands_pass i few))
+
+-- the first operand of a command that reads an index
+index_first : (k : CommandKind) (roles : List Role) (words : List (List ℕ)) (n : ℕ) → Counts k roles words → takes_of k ≡ names (suc n) (suc n) 1 → NamesIndex (operand 0 (by_role roles words))
+unfolding Names
+index_first k roles words n c is = index_at k roles words (names (suc n) (suc n) 1) 0 c is refl (omega arith) (omega (arith, c.operands_least, ap (λ t. t.operands.least) is))
+
+-- all operands of a command that reads indexes alone
+indexes_all : (k : CommandKind) (roles : List Role) (words : List (List ℕ)) (takes : Takes) → Counts k roles words → takes_of k ≡ takes → takes.takes_numbers ≡ false
+    → takes.writes_index ≡ false → takes.operands.greatest ≤ takes.indexes → All NamesIndex (words_as role.Operand roles words)
+unfolding Names
+indexes_all k roles words takes c is numbers reads le =
+    All-from_get_or NamesIndex (words_as role.Operand roles words) [] (λ i lt.
+    let few : i < times_of_role role.Operand roles = omega (arith, lt, c.as_many role.Operand) in
+    let most = c.operands_greatest (ap (λ t. t.takes_numbers) is ∙ numbers) in
+    subst (λ b. Names b (word_as role.Operand i roles words)) reads
+    (index_at k roles words takes i c is numbers (omega (arith, few, most, le, ap (λ t. t.operands.greatest) is)) few))
+
+both_true : (a b : Bool) → a && not b ≡ true → b ≡ false
+both_true true b e = not_true b e
+both_true false b e = absurd (true≢false (sym e))
+
+seed_by : (empty right : Bool) → name_refusal empty right why.BadSeed ≡ None → right ≡ true
+seed_by true right e = absurd (none-some _ (sym e))
+seed_by false right e = is_right right _ e
+
+-- the indexes of seeds are files
+seeds_all : (k : CommandKind) (roles : List Role) (words : List (List ℕ)) → Counts k roles words → All (λ w. is_index_url w ≡ false) (words_as (role.Value option.Seed) roles words)
+seeds_all k roles words c =
+    All-from_get_or (λ w. is_index_url w ≡ false) (words_as (role.Value option.Seed) roles words) [] (λ i lt.
+    let w = word_as (role.Value option.Seed) i roles words in
+    both_true (ends_in_caibx w) (is_index_url w) (seed_by (is_empty w) (is_seed w) (c.values_pass option.Seed i (omega (arith, lt, c.as_many (role.Value option.Seed))))))
+
 -- ---- each command
 
+index_of_make : (roles : List Role) (words : List (List ℕ)) → Counts command.Make roles words → is_index_url (operand 0 (by_role roles words)) ≡ false
+unfolding Names
+index_of_make roles words c = index_at command.Make roles words written_index 0 c names_of_make refl (omega arith) (omega (arith, c.operands_least, ap (λ t. t.operands.least) names_of_make))
+
 kept : (k : CommandKind) (roles : List Role) (words : List (List ℕ)) → Counts k roles words → Fits (command_by_roles k (by_role roles words))
-kept command.Make roles words c = tt
+kept command.Make roles words c = index_of_make roles words c
 kept command.Extract roles words c =
     let stores = stores_counted command.Extract roles words c in (
       omega (arith, stores, c.least, ap (λ t. t.least) stores_of_extract),
       omega (arith, stores, c.greatest option.Store store_takes, ap (λ t. t.greatest) stores_of_extract),
       omega (arith, c.as_many (role.Value option.Seed), c.greatest option.Seed seed_takes, ap (λ t. t.greatest) seeds_of_extract),
+      seeds_all command.Extract roles words c,
+      index_first command.Extract roles words 1 c names_of_extract,
     )
-kept command.VerifyIndex roles words c = tt
-kept command.Chop roles words c = tt
+kept command.Cat roles words c =
+    let stores = stores_counted command.Cat roles words c in (
+      omega (arith, stores, c.least, ap (λ t. t.least) stores_of_cat),
+      omega (arith, stores, c.greatest option.Store store_takes, ap (λ t. t.greatest) stores_of_cat),
+      index_first command.Cat roles words 0 c names_of_cat,
+    )
+kept command.VerifyIndex roles words c = index_first command.VerifyIndex roles words 1 c names_of_verify_index
+kept command.Chop roles words c = index_first command.Chop roles words 1 c names_of_chop
 kept command.Cache roles words c =
     let stores = stores_counted command.Cache roles words c in (
       omega (arith, stores, c.least, ap (λ t. t.least) stores_of_cache),
       omega (arith, stores, c.greatest option.Store store_takes, ap (λ t. t.greatest) stores_of_cache),
       omega (arith, c.as_many role.Operand, c.operands_least, ap (λ t. t.operands.least) names_of_cache),
       omega (arith, c.as_many role.Operand, c.operands_greatest (ap (λ t. t.takes_numbers) names_of_cache), ap (λ t. t.operands.greatest) names_of_cache),
+      indexes_all command.Cache roles words (names 1 64 64) c names_of_cache refl refl (omega arith),
     )
-kept command.ListChunks roles words c = tt
-kept command.Info roles words c = omega (arith, stores_counted command.Info roles words c, c.greatest option.Store store_takes, ap (λ t. t.greatest) stores_of_info)
+kept command.ListChunks roles words c = index_first command.ListChunks roles words 0 c names_of_list_chunks
+kept command.Info roles words c = (
+  omega (arith, stores_counted command.Info roles words c, c.greatest option.Store store_takes, ap (λ t. t.greatest) stores_of_info),
+  index_first command.Info roles words 0 c names_of_info,
+)
 kept command.Verify roles words c = tt
 kept command.Prune roles words c = (
   omega (arith, c.as_many role.Operand, c.operands_least, ap (λ t. t.operands.least) names_of_prune),
   omega (arith, c.as_many role.Operand, c.operands_greatest (ap (λ t. t.takes_numbers) names_of_prune), ap (λ t. t.operands.greatest) names_of_prune),
+  indexes_all command.Prune roles words (folder_and_indexes 1 64) c names_of_prune refl refl (omega arith),
 )
 kept command.ChunkServer roles words c = tt
+kept command.IndexServer roles words c = tt
 kept command.Demo roles words c = number_bounded 536870912 (operand 1 (by_role roles words))
 
 -- ---- all words

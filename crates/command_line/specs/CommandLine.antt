@@ -23,7 +23,7 @@ use Rattle.command_words.specs.declared.usage.WordsFault.TheVariants as fault
 use Rattle.command_words.specs.Locations.{location_of}
 use Rattle.command_words.specs.OptionTable.{command_named}
 use Rattle.command_words.specs.Roles.{WordsByRole, by_role, times_of_role, words_as, word_as}
-use Rattle.command_words.specs.Values.{number_in_word, workers_of, sizes_of, listen_of, digest_of}
+use Rattle.command_words.specs.Values.{number_in_word, workers_of, byte_count_of, sizes_of, listen_of, digest_of}
 
 -- ---- what words that have passed say, by their roles
 
@@ -64,6 +64,14 @@ digest p = unwrap_or (digest_of (value option.Digest p)) kinds.Sha512T256
 abbrev pub address : WordsByRole → List ℕ × ℕ
 address p = unwrap_or (listen_of (value option.Listen p)) ([], 0)
 
+-- the start of the image where no offset is given
+abbrev pub offset : WordsByRole → ℕ
+offset p = unwrap_or (byte_count_of (value option.Offset p)) 0
+
+-- none where no length is given
+abbrev pub size : WordsByRole → Option ℕ
+size p = byte_count_of (value option.Length p)
+
 abbrev pub number : ℕ → List ℕ → ℕ
 number most w = unwrap_or (number_in_word 0 most w) 0
 
@@ -72,6 +80,7 @@ command_by_roles command.Make p = said.Make (store p) (sizes p) (workers p) (dig
 command_by_roles command.Extract p =
     said.Extract (stores p) (words_as (role.Value option.Seed) p.roles p.words) (cache p) (is_given option.InPlace p)
     (workers p) (operand 0 p) (operand 1 p)
+command_by_roles command.Cat p = said.Cat (stores p) (offset p) (size p) (operand 0 p)
 command_by_roles command.VerifyIndex p = said.VerifyIndex (workers p) (operand 0 p) (operand 1 p)
 command_by_roles command.Chop p = said.Chop (store p) (workers p) (operand 0 p) (operand 1 p)
 command_by_roles command.Cache p =
@@ -84,6 +93,8 @@ command_by_roles command.Prune p = said.Prune (value option.Store p) (words_as r
 command_by_roles command.ChunkServer p =
     said.ChunkServer (value option.Store p) (address p).0 (address p).1 (is_given option.Writable p) (workers p)
     (digest p)
+command_by_roles command.IndexServer p =
+    said.IndexServer (value option.Store p) (address p).0 (address p).1 (is_given option.Writable p)
 command_by_roles command.Demo p =
     said.Demo (number 18446744073709551615 (operand 0 p)) (number 536870912 (operand 1 p)) (workers p) (digest p)
 

@@ -6,21 +6,24 @@ use Rattle.command_line.specs.declared.judge.Refusal.{Refusal}
 use Rattle.command_line.specs.declared.judge.Refusal.TheVariants as refusal
 use Rattle.command_words.specs.declared.command.Location.{Location}
 use Rattle.command_words.specs.declared.command.Location.TheVariants as location
+use Rattle.command_words.specs.declared.location.IndexPlace.{IndexPlace}
 use Rattle.command_words.specs.declared.location.NoLocation.{NoLocation}
 use Rattle.command_words.specs.declared.location.NoLocation.TheVariants as no
 use Rattle.command_words.specs.declared.option_table.CommandKind.{CommandKind}
 use Rattle.command_words.specs.declared.option_table.OptionKind.{OptionKind}
 use Rattle.command_words.specs.declared.option_table.OptionKind.TheVariants as option
+use Rattle.command_words.specs.declared.option_table.Takes.{Takes}
 use Rattle.command_words.specs.declared.roles.Role.{Role}
 use Rattle.command_words.specs.declared.roles.Role.TheVariants as role
 use Rattle.command_words.specs.declared.usage.UsageWhy.{UsageWhy}
 use Rattle.command_words.specs.declared.usage.UsageWhy.TheVariants as why
 use Rattle.command_words.specs.declared.usage.WordsFault.{WordsFault}
 use Rattle.command_words.specs.declared.usage.WordsFault.TheVariants as fault
-use Rattle.command_words.specs.Locations.{location_of}
+use Rattle.command_words.specs.Locations.{location_of, is_index_url, index_place_of}
 use Rattle.command_words.specs.OptionTable.{takes_of, times_of}
 use Rattle.command_words.specs.Roles.{awaited, role_of, roles_of, times_of_role}
-use Rattle.command_words.specs.Values.{number_in_word, workers_of, sizes_of, listen_of, is_seed, digest_of}
+use Rattle.command_words.specs.Values.{number_in_word, workers_of, byte_count_of, sizes_of, listen_of}
+use Rattle.command_words.specs.Values.{is_seed, digest_of}
 
 -- ---- one word
 
@@ -51,11 +54,30 @@ value_refusal k option.Cache w = unless (not (is_empty w)) why.Empty
 value_refusal k option.Seed w = name_refusal (is_empty w) (is_seed w) why.BadSeed
 value_refusal k option.Listen w = unless (is_some (listen_of w)) why.BadListen
 value_refusal k option.Digest w = unless (is_some (digest_of w)) why.BadDigest
+value_refusal k option.Offset w = unless (is_some (byte_count_of w)) why.BadNumber
+value_refusal k option.Length w = unless (is_some (byte_count_of w)) why.BadNumber
 value_refusal k without w = None
 
+-- a place of an index that was read, or why not
+abbrev pub place_refusal : Result IndexPlace NoLocation → Option Refusal
+place_refusal (Ok p) = None
+place_refusal (Err no.Bad) = Some (refusal.Why why.BadLocation)
+place_refusal (Err no.Memory) = Some refusal.Memory
+
+-- an index has a place; one that is written is no URL
+abbrev pub index_refusal : Bool → List ℕ → Option Refusal
+index_refusal is_written w =
+    if is_written then unless (not (is_index_url w)) why.BadLocation else place_refusal (index_place_of w)
+
+-- one of the operands that a command takes: the first of them are indexes
+abbrev pub named_refusal : Takes → ℕ → List ℕ → Option Refusal
+named_refusal takes n w = if nat_lt n takes.indexes then index_refusal takes.writes_index w else None
+
 -- the operand that has n before it
-abbrev pub name_operand_refusal : CommandKind → ℕ → List ℕ → Option Refusal
-name_operand_refusal k n w = name_refusal (is_empty w) (nat_lt n (takes_of k).operands.greatest) why.Operands
+abbrev pub name_operand_refusal : Takes → ℕ → List ℕ → Option Refusal
+name_operand_refusal takes n w =
+    if is_empty w then Some (refusal.Why why.Empty)
+    else (if nat_lt n takes.operands.greatest then named_refusal takes n w else Some (refusal.Why why.Operands))
 
 -- those of `demo` are a number and a size
 abbrev pub number_refusal : ℕ → List ℕ → Option Refusal
@@ -68,7 +90,8 @@ demo_operand_refusal n w =
     else (if n == 1 then number_refusal 536870912 w else Some (refusal.Why why.Operands))
 
 abbrev pub operand_refusal : CommandKind → ℕ → List ℕ → Option Refusal
-operand_refusal k n w = if (takes_of k).takes_numbers then demo_operand_refusal n w else name_operand_refusal k n w
+operand_refusal k n w =
+    if (takes_of k).takes_numbers then demo_operand_refusal n w else name_operand_refusal (takes_of k) n w
 
 -- a word of a role, after words of the roles before it
 abbrev pub refusal_of : CommandKind → List Role → Role → List ℕ → Option Refusal

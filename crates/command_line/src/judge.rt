@@ -4,17 +4,18 @@
 ghost use Rattle.std.specs.Prelude.{◌≡◌, ◌<◌, ◌+◌, ◌^◌, ℕ, List, [], length, map, string_bytes, Result, Ok, Err, Some};
 ghost use Rattle.std.specs.Prelude.{None, IfOk};
 ghost use Rattle.command_line.specs.Judging.{RefusesWords, AnswersBy, number_refusal, unless, is_empty, store_refusal};
-ghost use Rattle.command_line.specs.Judging.{name_refusal, value_refusal, name_operand_refusal, demo_operand_refusal};
+ghost use Rattle.command_line.specs.Judging.{name_refusal, value_refusal, index_refusal, named_refusal};
+ghost use Rattle.command_line.specs.Judging.{name_operand_refusal, demo_operand_refusal, place_refusal};
 ghost use Rattle.command_line.specs.Judging.{operand_refusal, refusal_of, fault_at, judged, lacks, missing_words};
-ghost use Rattle.command_words.specs.Locations.{location_of};
+ghost use Rattle.command_words.specs.Locations.{location_of, index_place_of};
 ghost use Rattle.command_words.specs.OptionTable.{takes_of, times_of};
 
 use command_words::command::Location;
-use command_words::location::{NoLocation, read_location};
-use command_words::option_table::{CommandKind, OptionKind};
+use command_words::location::{NoLocation, is_index_url, read_index_place, read_location};
+use command_words::option_table::{CommandKind, OptionKind, Takes};
 use command_words::roles::{Role, awaited, count_of, role_of, word};
 use command_words::usage::{UsageWhy, WordsFault};
-use command_words::values::{digest, is_seed, listen, number, sizes, workers};
+use command_words::values::{byte_count, digest, is_seed, listen, number, sizes, workers};
 use std::alloc::Global;
 
 /// Why a word is refused.
@@ -82,9 +83,12 @@ fn judge_value(
         OptionKind::ChunkSize => unless(sizes(bytes).is_some(), UsageWhy::BadSizes),
         OptionKind::Concurrency => unless(workers(bytes).is_some(), UsageWhy::BadNumber),
         OptionKind::Cache => unless(!word.is_empty(), UsageWhy::Empty),
-        OptionKind::Seed => judge_name(word.is_empty(), is_seed(bytes), UsageWhy::BadSeed),
+        OptionKind::Seed => judge_name(word.is_empty(), is_seed(word), UsageWhy::BadSeed),
         OptionKind::Listen => unless(listen(word).is_some(), UsageWhy::BadListen),
         OptionKind::Digest => unless(digest(word).is_some(), UsageWhy::BadDigest),
+        OptionKind::Offset | OptionKind::Length => {
+            unless(byte_count(word).is_some(), UsageWhy::BadNumber)
+        }
         OptionKind::InPlace | OptionKind::Repair | OptionKind::Yes | OptionKind::Writable => Ok(()),
     }
 }
@@ -113,22 +117,62 @@ fn judge_demo_operand(before: usize, word: &str) -> Result<(), Refusal>
     Err(Refusal::Why(UsageWhy::Operands))
 }
 
-// Judges an operand that is a name and has this many before it.
-fn judge_name_operand(kind: CommandKind, before: usize, word: &str) -> Result<(), Refusal>
-    ensures { RefusesWords (name_operand_refusal kind before word.now) result }
+// Judges the place of an index.
+fn judge_place(alloc: Global, word: &str) -> Result<(), Refusal>
+    ensures { RefusesWords (place_refusal (index_place_of word.now)) result }
 {
-    let right = before < kind.takes().operands.greatest;
-    judge_name(word.is_empty(), right, UsageWhy::Operands)
+    match read_index_place(alloc, word) {
+        Ok(_) => Ok(()),
+        Err(NoLocation::Bad) => Err(Refusal::Why(UsageWhy::BadLocation)),
+        Err(NoLocation::Memory) => Err(Refusal::Memory),
+    }
+}
+
+// Judges an index.
+fn judge_index(alloc: Global, is_written: bool, word: &str) -> Result<(), Refusal>
+    ensures { RefusesWords (index_refusal is_written word.now) result }
+{
+    if is_written {
+        unless(!is_index_url(word), UsageWhy::BadLocation)
+    } else {
+        judge_place(alloc, word)
+    }
+}
+
+// Judges one of the operands that a command takes, which has this many before it.
+fn judge_named(alloc: Global, takes: Takes, before: usize, word: &str) -> Result<(), Refusal>
+    ensures { RefusesWords (named_refusal takes before word.now) result }
+{
+    if before < takes.indexes {
+        judge_index(alloc, takes.writes_index, word)
+    } else {
+        Ok(())
+    }
+}
+
+// Judges an operand that is a name and has this many before it.
+fn judge_name_operand(alloc: Global, takes: Takes, before: usize, word: &str) -> Result<(), Refusal>
+    ensures { RefusesWords (name_operand_refusal takes before word.now) result }
+{
+    if word.is_empty() {
+        return Err(Refusal::Why(UsageWhy::Empty));
+    }
+    if before < takes.operands.greatest {
+        judge_named(alloc, takes, before, word)
+    } else {
+        Err(Refusal::Why(UsageWhy::Operands))
+    }
 }
 
 // Judges an operand that has this many before it.
-fn judge_operand(kind: CommandKind, before: usize, word: &str) -> Result<(), Refusal>
+fn judge_operand(alloc: Global, kind: CommandKind, before: usize, word: &str) -> Result<(), Refusal>
     ensures { RefusesWords (operand_refusal kind before word.now) result }
 {
-    if kind.takes().takes_numbers {
+    let takes = kind.takes();
+    if takes.takes_numbers {
         judge_demo_operand(before, word)
     } else {
-        judge_name_operand(kind, before, word)
+        judge_name_operand(alloc, takes, before, word)
     }
 }
 
@@ -145,7 +189,7 @@ fn judge_word(
     match role {
         Role::Dashes => Ok(()),
         Role::Unknown => Err(Refusal::Why(UsageWhy::UnknownOption)),
-        Role::Operand => judge_operand(kind, count_of(Role::Operand, before), word),
+        Role::Operand => judge_operand(alloc, kind, count_of(Role::Operand, before), word),
         Role::Given(option) => {
             let right = count_of(Role::Given(option), before) < kind.times_of(option).greatest;
             unless(right, UsageWhy::TooMany)

@@ -127,6 +127,20 @@ impl<'a> CheckedWords<'a> {
         values::listen(self.value(OptionKind::Listen)).unwrap_or(("", 0))
     }
 
+    // The offset in the image, in bytes.
+    fn offset(&self) -> u64
+        ensures { result ≡ line.offset self.now }
+    {
+        values::byte_count(self.value(OptionKind::Offset)).unwrap_or(0)
+    }
+
+    // The greatest number of bytes, where one is given.
+    fn size(&self) -> Option<u64>
+        ensures { result ≡ line.size self.now }
+    {
+        values::byte_count(self.value(OptionKind::Length))
+    }
+
     fn make(&self, alloc: Global) -> Result<Command, AllocError>
         ensures { Says CommandKind.Make self.now result }
     {
@@ -151,6 +165,17 @@ impl<'a> CheckedWords<'a> {
             workers: self.workers(),
             index: self.operand(alloc, 0)?,
             target: self.operand(alloc, 1)?,
+        })
+    }
+
+    fn cat(&self, alloc: Global) -> Result<Command, AllocError>
+        ensures { Says CommandKind.Cat self.now result }
+    {
+        Ok(Command::Cat {
+            stores: self.stores(alloc)?,
+            offset: self.offset(),
+            length: self.size(),
+            index: self.operand(alloc, 0)?,
         })
     }
 
@@ -190,6 +215,18 @@ impl<'a> CheckedWords<'a> {
         })
     }
 
+    fn index_server(&self, alloc: Global) -> Result<Command, AllocError>
+        ensures { Says CommandKind.IndexServer self.now result }
+    {
+        let (host, port) = self.address();
+        Ok(Command::IndexServer {
+            store: self.named(alloc, OptionKind::Store)?,
+            host: Name::of(alloc, host)?,
+            port,
+            writable: self.is_given(OptionKind::Writable),
+        })
+    }
+
     fn demo(&self) -> Command
         ensures { result ≡ line.command_by_roles CommandKind.Demo self.now }
     {
@@ -208,6 +245,7 @@ impl<'a> CheckedWords<'a> {
         match kind {
             CommandKind::Make => self.make(alloc),
             CommandKind::Extract => self.extract(alloc),
+            CommandKind::Cat => self.cat(alloc),
             CommandKind::VerifyIndex => Ok(Command::VerifyIndex {
                 workers: self.workers(),
                 index: self.operand(alloc, 0)?,
@@ -233,6 +271,7 @@ impl<'a> CheckedWords<'a> {
                 indexes: self.names_as(alloc, Role::Operand)?,
             }),
             CommandKind::ChunkServer => self.chunk_server(alloc),
+            CommandKind::IndexServer => self.index_server(alloc),
             CommandKind::Demo => Ok(self.demo()),
         }
     }

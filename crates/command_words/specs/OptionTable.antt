@@ -1,5 +1,5 @@
 -- The options and the commands, a row each. A word is its bytes.
-use Rattle.std.specs.Prelude.{ℕ, Bool, true, false, List, [], ◌∷◌, codes, Option, find, option_map, unwrap_or}
+use Rattle.std.specs.Prelude.{ℕ, ◌&&◌, nat_lt, Bool, true, false, List, [], ◌∷◌, codes, Option, find, option_map, unwrap_or}
 use Rattle.std.specs.Option.{option_or}
 use Rattle.std.specs.Str.{bytes_eq}
 use denote.Enum.Bare.{sameb}
@@ -30,23 +30,33 @@ option_rows =
     ∷ (option.Listen, codes "-l", codes "--listen", true)
     ∷ (option.Writable, codes "-w", codes "--writeable", false)
     ∷ (option.Digest, codes "--digest", codes "--digest", true)
+    ∷ (option.Offset, codes "-o", codes "--offset", true)
+    ∷ (option.Length, codes "-l", codes "--length", true)
     ∷ []
 
 -- `least` to `greatest` times
 abbrev pub times : ℕ → ℕ → Times
 times l g = record { least = l; greatest = g }
 
--- this many operands that are names
-abbrev pub names : ℕ → ℕ → Takes
-names l g = record { operands = times l g; needs_folder = false; takes_numbers = false }
+-- this many operands that are names, the first of them of indexes that are read
+abbrev pub names : ℕ → ℕ → ℕ → Takes
+names l g n =
+    record { operands = times l g; indexes = n; writes_index = false; needs_folder = false; takes_numbers = false }
 
--- a store that has to be a folder, and this many names
-abbrev pub folder_and_names : ℕ → ℕ → Takes
-folder_and_names l g = record { operands = times l g; needs_folder = true; takes_numbers = false }
+-- the name of an index that is written, and one more
+abbrev pub written_index : Takes
+written_index =
+    record { operands = times 2 2; indexes = 1; writes_index = true; needs_folder = false; takes_numbers = false }
+
+-- a store that has to be a folder, and this many names of indexes
+abbrev pub folder_and_indexes : ℕ → ℕ → Takes
+folder_and_indexes l g =
+    record { operands = times l g; indexes = g; writes_index = false; needs_folder = true; takes_numbers = false }
 
 -- a number and a size
 abbrev pub number_and_size : Takes
-number_and_size = record { operands = times 2 2; needs_folder = false; takes_numbers = true }
+number_and_size =
+    record { operands = times 2 2; indexes = 0; writes_index = false; needs_folder = false; takes_numbers = true }
 
 abbrev pub once : Times
 once = times 1 1
@@ -62,6 +72,8 @@ options_of command.Make =
 options_of command.Extract =
     (option.Store, times 1 16) ∷ (option.Seed, times 0 64) ∷ (option.Cache, at_most_once)
     ∷ (option.InPlace, at_most_once) ∷ (option.Concurrency, at_most_once) ∷ []
+options_of command.Cat =
+    (option.Store, times 1 16) ∷ (option.Offset, at_most_once) ∷ (option.Length, at_most_once) ∷ []
 options_of command.VerifyIndex = (option.Concurrency, at_most_once) ∷ []
 options_of command.Chop = (option.Store, once) ∷ (option.Concurrency, at_most_once) ∷ []
 options_of command.Cache =
@@ -75,6 +87,7 @@ options_of command.Prune = (option.Store, once) ∷ (option.Yes, once) ∷ []
 options_of command.ChunkServer =
     (option.Store, once) ∷ (option.Listen, once) ∷ (option.Writable, at_most_once)
     ∷ (option.Concurrency, at_most_once) ∷ (option.Digest, at_most_once) ∷ []
+options_of command.IndexServer = (option.Store, once) ∷ (option.Listen, once) ∷ (option.Writable, at_most_once) ∷ []
 options_of command.Demo = (option.Concurrency, at_most_once) ∷ (option.Digest, at_most_once) ∷ []
 
 -- a command, the word that it is called by, the options that it takes and how often, and what else it takes
@@ -83,16 +96,18 @@ row k w takes = (k, w, options_of k, takes)
 
 unfoldable pub command_rows : List (CommandKind × List ℕ × List (OptionKind × Times) × Takes)
 command_rows =
-    row command.Make (codes "make") (names 2 2)
-    ∷ row command.Extract (codes "extract") (names 2 2)
-    ∷ row command.VerifyIndex (codes "verify-index") (names 2 2)
-    ∷ row command.Chop (codes "chop") (names 2 2)
-    ∷ row command.Cache (codes "cache") (names 1 64)
-    ∷ row command.ListChunks (codes "list-chunks") (names 1 1)
-    ∷ row command.Info (codes "info") (names 1 1)
-    ∷ row command.Verify (codes "verify") (folder_and_names 0 0)
-    ∷ row command.Prune (codes "prune") (folder_and_names 1 64)
-    ∷ row command.ChunkServer (codes "chunk-server") (folder_and_names 0 0)
+    row command.Make (codes "make") written_index
+    ∷ row command.Extract (codes "extract") (names 2 2 1)
+    ∷ row command.Cat (codes "cat") (names 1 1 1)
+    ∷ row command.VerifyIndex (codes "verify-index") (names 2 2 1)
+    ∷ row command.Chop (codes "chop") (names 2 2 1)
+    ∷ row command.Cache (codes "cache") (names 1 64 64)
+    ∷ row command.ListChunks (codes "list-chunks") (names 1 1 1)
+    ∷ row command.Info (codes "info") (names 1 1 1)
+    ∷ row command.Verify (codes "verify") (folder_and_indexes 0 0)
+    ∷ row command.Prune (codes "prune") (folder_and_indexes 1 64)
+    ∷ row command.ChunkServer (codes "chunk-server") (folder_and_indexes 0 0)
+    ∷ row command.IndexServer (codes "index-server") (folder_and_indexes 0 0)
     ∷ row command.Demo (codes "demo") number_and_size
     ∷ []
 
@@ -108,18 +123,6 @@ same_option = sameb an_option.the_type
 -- by which options are told apart
 abbrev pub option_number : OptionKind → ℕ
 option_number = tag_of an_option.the_type
-
--- the option that is spelled so in one letter, or has this one spelling
-unfoldable pub short_named : List ℕ → Option OptionKind
-short_named w = first_row (λ row. bytes_eq w row.1) (λ row. row.0) option_rows
-
--- the option that is spelled so in words
-unfoldable pub long_named : List ℕ → Option OptionKind
-long_named w = first_row (λ row. bytes_eq w row.2) (λ row. row.0) option_rows
-
--- the option that is spelled so
-abbrev pub option_named : List ℕ → Option OptionKind
-option_named w = option_or (short_named w) (long_named w)
 
 -- the next word is the option's value
 unfoldable pub takes_value : OptionKind → Bool
@@ -143,4 +146,22 @@ times_of k o = unwrap_or (first_row (λ row. same_command row.0 k) (λ row. time
 
 -- what the command takes beside its options
 unfoldable pub takes_of : CommandKind → Takes
-takes_of k = unwrap_or (first_row (λ row. same_command row.0 k) (λ row. row.3) command_rows) (names 0 0)
+takes_of k = unwrap_or (first_row (λ row. same_command row.0 k) (λ row. row.3) command_rows) (names 0 0 0)
+
+-- the command takes the option at all
+abbrev pub takes_option : CommandKind → OptionKind → Bool
+takes_option k o = nat_lt 0 (times_of k o).greatest
+
+-- ---- the options of a command, by their spelling
+
+-- the first that the command takes and that is spelled so in one letter, or has this one spelling
+unfoldable pub short_named : CommandKind → List ℕ → Option OptionKind
+short_named k w = first_row (λ row. bytes_eq w row.1 && takes_option k row.0) (λ row. row.0) option_rows
+
+-- the first that the command takes and that is spelled so in words
+unfoldable pub long_named : CommandKind → List ℕ → Option OptionKind
+long_named k w = first_row (λ row. bytes_eq w row.2 && takes_option k row.0) (λ row. row.0) option_rows
+
+-- the option of the command that is spelled so
+abbrev pub option_named : CommandKind → List ℕ → Option OptionKind
+option_named k w = option_or (short_named k w) (long_named k w)

@@ -7,14 +7,7 @@ use Rattle.command_words.specs.declared.option_table.CommandKind.{CommandKind}
 use Rattle.command_words.specs.declared.option_table.OptionKind.{OptionKind}
 use Rattle.command_words.specs.declared.roles.Role.{Role}
 use Rattle.command_words.specs.declared.roles.Role.TheVariants as role
-use Rattle.command_words.specs.OptionTable.{option_named, option_number, takes_value, times_of}
-
--- the option of the command that is spelled so
-abbrev pub option_of : CommandKind → List ℕ → Option OptionKind
-option_of k w = elim (option_named w) [
-  | None ↦ None
-  | Some o ↦ if nat_lt 0 (times_of k o).greatest then Some o else None
-]
+use Rattle.command_words.specs.OptionTable.{option_named, option_number, takes_value}
 
 -- what a word is that begins with `-`, by the option that it spells
 abbrev pub option_role : Option OptionKind → Role
@@ -25,7 +18,7 @@ option_role (Some o) = role.Given o
 abbrev pub spelled_role : CommandKind → List ℕ → Role
 spelled_role k w =
     if bytes_eq w (codes "--") then role.Dashes
-    else (if starts_with nat_eq w (codes "-") then option_role (option_of k w) else role.Operand)
+    else (if starts_with nat_eq w (codes "-") then option_role (option_named k w) else role.Operand)
 
 -- the option of the role, where its value is the next word
 abbrev pub opens : Role → Option OptionKind

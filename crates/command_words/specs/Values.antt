@@ -1,5 +1,5 @@
 -- What the values of options and the operands say. A word is its bytes.
-use Rattle.std.specs.Prelude.{ℕ, ◌+◌, ◌-◌, ◌*◌, ◌==◌, ◌&&◌, ◌||◌, Bool, List, [], ◌∷◌, length, take, drop, slice_index}
+use Rattle.std.specs.Prelude.{ℕ, ◌+◌, ◌-◌, ◌*◌, ◌==◌, ◌&&◌, ◌||◌, Bool, not, List, [], ◌∷◌, length, take, drop, slice_index}
 use Rattle.std.specs.Prelude.{codes, position, Option, Some, None, option_map, if◌then◌else◌, nat_eq, nat_le, nat_lt}
 use Rattle.std.specs.List.{ends_with}
 use Rattle.std.specs.Char.{is_ascii_digit}
@@ -7,6 +7,7 @@ use Rattle.std.specs.Path.{rfind_below}
 use Rattle.std.specs.Str.{bytes_eq}
 use Rattle.chunk_store.specs.declared.id.DigestKind.{DigestKind}
 use Rattle.chunk_store.specs.declared.id.DigestKind.TheVariants as kinds
+use Rattle.command_words.specs.Locations.{is_index_url}
 
 -- the number that the digit makes of the digits n before it, unless it is above `most`
 abbrev pub with_digit : ℕ → ℕ → ℕ → Option ℕ
@@ -32,6 +33,10 @@ number_in_word least most w = at_least least (number_up_to most w)
 -- workers, by -n
 abbrev pub workers_of : List ℕ → Option ℕ
 workers_of w = number_in_word 1 32 w
+
+-- a number of bytes of an image, by -o and -l
+abbrev pub byte_count_of : List ℕ → Option ℕ
+byte_count_of w = number_in_word 0 18446744073709551615 w
 
 -- what stands before and after the first c
 abbrev pub split_at : ℕ → List ℕ → Option (List ℕ × List ℕ)
@@ -65,9 +70,13 @@ listen_of w = elim (split_at_last 58 w) [
   | Some p ↦ option_map (λ n. (p.0, n)) (number_in_word 1 65535 p.1)
 ]
 
--- the name of a seed's index ends in `.caibx` and has more before it
+-- the word ends in `.caibx` and has more before it
+abbrev pub ends_in_caibx : List ℕ → Bool
+ends_in_caibx w = nat_lt 6 (length w) && ends_with nat_eq w (codes ".caibx")
+
+-- the name of a seed's index, which is a file
 abbrev pub is_seed : List ℕ → Bool
-is_seed w = nat_lt 6 (length w) && ends_with nat_eq w (codes ".caibx")
+is_seed w = ends_in_caibx w && not (is_index_url w)
 
 -- the kind of digest, by --digest: SHA-512/256 or SHA-256 (FIPS 180-4)
 abbrev pub digest_of : List ℕ → Option DigestKind

@@ -86,7 +86,8 @@ impl Names {
 }
 
 /// What the words say. `sizes` are the least, the average and the greatest chunk size in bytes, not
-/// yet judged.
+/// yet judged. `offset` and `length` are bytes of the image; where no length is given all that
+/// follows is meant.
 #[derive(Debug, Drop)]
 pub enum Command {
     Make {
@@ -105,6 +106,12 @@ pub enum Command {
         workers: u32,
         index: Name,
         target: Name,
+    },
+    Cat {
+        stores: Locations,
+        offset: u64,
+        length: Option<u64>,
+        index: Name,
     },
     VerifyIndex {
         workers: u32,
@@ -147,6 +154,12 @@ pub enum Command {
         writable: bool,
         workers: u32,
         digest: DigestKind,
+    },
+    IndexServer {
+        store: Name,
+        host: Name,
+        port: u16,
+        writable: bool,
     },
     Demo {
         number: u64,

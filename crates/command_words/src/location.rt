@@ -1,23 +1,33 @@
-//! Reading where chunks are: a folder's name, or an `http` URL.
+//! Reading where chunks are, a folder's name or an `http` URL, and where an index is, a file's name
+//! or an `http` URL.
 
 ghost use Rattle.std.specs.Prelude.{◌≡◌, ◌<◌, ◌≤◌, ℕ, List, length, map, drop, codes, nat_eq, IfOk, None};
 ghost use Rattle.std.specs.List.{starts_with};
 ghost use Rattle.std.specs.Str.{bytes_eq};
 ghost use Rattle.url.specs.Parser.{parse_url};
 ghost use Rattle.command_words.specs.Locations.{contains_scheme, is_out_of_room, is_plain_http, without_last_slash};
-ghost use Rattle.command_words.specs.Locations.{server_of, url_location, location_of, Locates};
+ghost use Rattle.command_words.specs.Locations.{server_of, url_location, location_of, Locates, host_of, port_of};
+ghost use Rattle.command_words.specs.Locations.{no_url, is_index_url, names_an_index, index_server_of, index_url, index_place_of};
 
 use crate::command::Location;
 use dsy_base::name::Name;
 use std::alloc::{AllocError, Global};
 use url::{ParseError, Url};
 
-/// Why a word names no location.
+/// Why a word names no location, or no place of an index.
 #[derive(Clone, Copy, Debug, PartialEq, Eq)]
 pub enum NoLocation {
     /// It is a list of locations, or no URL that may be used.
     Bad,
     Memory,
+}
+
+/// Where an index is: a file, or an HTTP server and the path that is asked for, as it stands in a
+/// request.
+#[derive(Debug, Drop)]
+pub enum IndexPlace {
+    File(Name),
+    Http { host: Name, port: u16, path: Name },
 }
 
 // Whether `://` stands in the word at this place.
@@ -78,17 +88,42 @@ fn prefix_of(url: &Url) -> &str
     }
 }
 
+// The host of the URL.
+fn host_of(alloc: Global, url: &Url) -> Result<Name, AllocError>
+    ensures { IfOk result (λ n. n ≡ host_of url.now) }
+{
+    Name::of(alloc, url.host_str().unwrap_or(""))
+}
+
+// The port of the URL.
+fn port_of(url: &Url) -> u16
+    ensures { result ≡ port_of url.now }
+{
+    url.port().unwrap_or(80)
+}
+
 // The server of the URL.
 fn server_of(alloc: Global, url: &Url) -> Result<Location, AllocError>
     ensures { IfOk result (λ l. l ≡ server_of url.now) }
 {
-    let host = Name::of(alloc, url.host_str().unwrap_or(""))?;
+    let host = host_of(alloc, url)?;
     let prefix = Name::of(alloc, prefix_of(url))?;
     Ok(Location::Http {
         host,
-        port: url.port().unwrap_or(80),
+        port: port_of(url),
         prefix,
     })
+}
+
+// Why no URL was read.
+fn no_url(error: ParseError) -> NoLocation
+    ensures { result ≡ no_url error }
+{
+    if is_out_of_room(error) {
+        NoLocation::Memory
+    } else {
+        NoLocation::Bad
+    }
 }
 
 // The location of a URL.
@@ -100,18 +135,9 @@ fn read_url(alloc: Global, word: &str) -> Result<Location, NoLocation>
             if !is_plain_http(&url) {
                 return Err(NoLocation::Bad);
             }
-            match server_of(alloc, &url) {
-                Ok(location) => Ok(location),
-                Err(_) => Err(NoLocation::Memory),
-            }
+            server_of(alloc, &url).map_err(|_| NoLocation::Memory)
         }
-        Err(error) => {
-            if is_out_of_room(error) {
-                Err(NoLocation::Memory)
-            } else {
-                Err(NoLocation::Bad)
-            }
-        }
+        Err(error) => Err(no_url(error)),
     }
 }
 
@@ -128,6 +154,61 @@ pub fn read_location(alloc: Global, word: &str) -> Result<Location, NoLocation>
     }
     match Name::of(alloc, word) {
         Ok(name) => Ok(Location::Folder(name)),
+        Err(_) => Err(NoLocation::Memory),
+    }
+}
+
+/// Whether an index of this name is asked for over HTTP, and is no file.
+pub fn is_index_url(word: &str) -> bool
+    ensures { result ≡ is_index_url word.now }
+{
+    has_scheme(word.as_bytes())
+}
+
+// Whether it is an `http` URL with nothing but a host, a port and a path that names something.
+fn names_an_index(url: &Url) -> bool
+    ensures { result ≡ names_an_index url.now }
+{
+    is_plain_http(url) && url.path() != "/"
+}
+
+// The server of an index, and its path.
+fn index_server_of(alloc: Global, url: &Url) -> Result<IndexPlace, AllocError>
+    ensures { IfOk result (λ p. p ≡ index_server_of url.now) }
+{
+    let host = host_of(alloc, url)?;
+    let path = Name::of(alloc, url.path())?;
+    Ok(IndexPlace::Http {
+        host,
+        port: port_of(url),
+        path,
+    })
+}
+
+// The place of an index by its URL.
+fn read_index_url(alloc: Global, word: &str) -> Result<IndexPlace, NoLocation>
+    ensures { Locates (index_url (parse_url None word.now)) result }
+{
+    match Url::parse(alloc, word) {
+        Ok(url) => {
+            if !names_an_index(&url) {
+                return Err(NoLocation::Bad);
+            }
+            index_server_of(alloc, &url).map_err(|_| NoLocation::Memory)
+        }
+        Err(error) => Err(no_url(error)),
+    }
+}
+
+/// The place of the index that a word names. The empty word is judged before.
+pub fn read_index_place(alloc: Global, word: &str) -> Result<IndexPlace, NoLocation>
+    ensures { Locates (index_place_of word.now) result }
+{
+    if is_index_url(word) {
+        return read_index_url(alloc, word);
+    }
+    match Name::of(alloc, word) {
+        Ok(name) => Ok(IndexPlace::File(name)),
         Err(_) => Err(NoLocation::Memory),
     }
 }

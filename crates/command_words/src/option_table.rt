@@ -1,13 +1,14 @@
-//! The commands and the options, a row each: how they are spelled, and which command takes which
-//! option how often. A new option is a variant and its row, and stands in the rows of the commands
-//! that take it; a new command is a variant and its row. The contracts have rows of their own, which
-//! these are proved to be.
+//! The commands and the options, a row each: how they are spelled, and which command takes which option how often. A new
+//! option is a variant and its row, and stands in the rows of the commands that take it; a new command is a variant and
+//! its row. A spelling that stands in two rows means the option that the command takes. The contracts have rows of their
+//! own, which these are proved to be.
 
-ghost use Rattle.std.specs.Prelude.{◌≡◌, ◌<◌, false, map, unwrap_or};
+ghost use Rattle.std.specs.Prelude.{◌≡◌, ◌<◌, ◌&&◌, false, map, unwrap_or};
 ghost use Rattle.std.specs.Str.{bytes_eq};
 ghost use Rattle.command_words.specs.OptionTable.{first_row, times, names, same_option, same_command, option_number};
-ghost use Rattle.command_words.specs.OptionTable.{option_rows, command_rows, takes_value, short_named, long_named};
-ghost use Rattle.command_words.specs.OptionTable.{option_named, command_named, times_among, times_of, takes_of};
+ghost use Rattle.command_words.specs.OptionTable.{option_rows, command_rows, takes_value, takes_option, short_named};
+ghost use Rattle.command_words.specs.OptionTable.{long_named, option_named, command_named, times_among, times_of};
+ghost use Rattle.command_words.specs.OptionTable.{takes_of};
 
 /// An option of a command.
 #[derive(Clone, Copy, Debug, PartialEq, Eq, Drop)]
@@ -23,6 +24,8 @@ pub enum OptionKind {
     Listen,
     Writable,
     Digest,
+    Offset,
+    Length,
 }
 
 /// A command.
@@ -30,6 +33,7 @@ pub enum OptionKind {
 pub enum CommandKind {
     Make,
     Extract,
+    Cat,
     VerifyIndex,
     Chop,
     Cache,
@@ -38,6 +42,7 @@ pub enum CommandKind {
     Verify,
     Prune,
     ChunkServer,
+    IndexServer,
     Demo,
 }
 
@@ -52,6 +57,10 @@ pub struct Times {
 #[derive(Clone, Copy, Debug, Drop)]
 pub struct Takes {
     pub operands: Times,
+    /// How many of its first operands are indexes.
+    pub indexes: usize,
+    /// It writes its index, so that is a file, and no URL.
+    pub writes_index: bool,
     /// The store has to be a folder.
     pub needs_folder: bool,
     /// The operands are a number and a size, else names.
@@ -92,13 +101,15 @@ const TWICE: Times = Times {
 
 const NOTHING: Takes = Takes {
     operands: NEVER,
+    indexes: 0,
+    writes_index: false,
     needs_folder: false,
     takes_numbers: false,
 };
 
 /// The options.
 #[rattlefmt::skip]
-static OPTIONS: [OptionRow; 11] = [
+static OPTIONS: [OptionRow; 13] = [
     (OptionKind::Store, "-s", "--store", true),
     (OptionKind::ChunkSize, "-m", "--chunk-size", true),
     (OptionKind::Concurrency, "-n", "--concurrency", true),
@@ -110,46 +121,55 @@ static OPTIONS: [OptionRow; 11] = [
     (OptionKind::Listen, "-l", "--listen", true),
     (OptionKind::Writable, "-w", "--writeable", false),
     (OptionKind::Digest, "--digest", "--digest", true),
+    (OptionKind::Offset, "-o", "--offset", true),
+    (OptionKind::Length, "-l", "--length", true),
 ];
 
 /// The commands.
 #[rattlefmt::skip]
-static COMMANDS: [CommandRow; 11] = [
+static COMMANDS: [CommandRow; 13] = [
     (CommandKind::Make, "make",
         &[(OptionKind::Store, ONCE), (OptionKind::ChunkSize, AT_MOST_ONCE), (OptionKind::Concurrency, AT_MOST_ONCE),
             (OptionKind::Digest, AT_MOST_ONCE)],
-        Takes { operands: TWICE, ..NOTHING }),
+        Takes { operands: TWICE, indexes: 1, writes_index: true, ..NOTHING }),
     (CommandKind::Extract, "extract",
         &[(OptionKind::Store, Times { least: 1, greatest: 16 }), (OptionKind::Seed, Times { least: 0, greatest: 64 }),
             (OptionKind::Cache, AT_MOST_ONCE), (OptionKind::InPlace, AT_MOST_ONCE),
             (OptionKind::Concurrency, AT_MOST_ONCE)],
-        Takes { operands: TWICE, ..NOTHING }),
+        Takes { operands: TWICE, indexes: 1, ..NOTHING }),
+    (CommandKind::Cat, "cat",
+        &[(OptionKind::Store, Times { least: 1, greatest: 16 }), (OptionKind::Offset, AT_MOST_ONCE),
+            (OptionKind::Length, AT_MOST_ONCE)],
+        Takes { operands: ONCE, indexes: 1, ..NOTHING }),
     (CommandKind::VerifyIndex, "verify-index",
         &[(OptionKind::Concurrency, AT_MOST_ONCE)],
-        Takes { operands: TWICE, ..NOTHING }),
+        Takes { operands: TWICE, indexes: 1, ..NOTHING }),
     (CommandKind::Chop, "chop",
         &[(OptionKind::Store, ONCE), (OptionKind::Concurrency, AT_MOST_ONCE)],
-        Takes { operands: TWICE, ..NOTHING }),
+        Takes { operands: TWICE, indexes: 1, ..NOTHING }),
     (CommandKind::Cache, "cache",
         &[(OptionKind::Store, Times { least: 1, greatest: 16 }), (OptionKind::Cache, ONCE),
             (OptionKind::Concurrency, AT_MOST_ONCE)],
-        Takes { operands: Times { least: 1, greatest: 64 }, ..NOTHING }),
+        Takes { operands: Times { least: 1, greatest: 64 }, indexes: 64, ..NOTHING }),
     (CommandKind::ListChunks, "list-chunks",
         &[],
-        Takes { operands: ONCE, ..NOTHING }),
+        Takes { operands: ONCE, indexes: 1, ..NOTHING }),
     (CommandKind::Info, "info",
         &[(OptionKind::Store, Times { least: 0, greatest: 16 })],
-        Takes { operands: ONCE, ..NOTHING }),
+        Takes { operands: ONCE, indexes: 1, ..NOTHING }),
     (CommandKind::Verify, "verify",
         &[(OptionKind::Store, ONCE), (OptionKind::Repair, AT_MOST_ONCE), (OptionKind::Concurrency, AT_MOST_ONCE),
             (OptionKind::Digest, AT_MOST_ONCE)],
         Takes { needs_folder: true, ..NOTHING }),
     (CommandKind::Prune, "prune",
         &[(OptionKind::Store, ONCE), (OptionKind::Yes, ONCE)],
-        Takes { operands: Times { least: 1, greatest: 64 }, needs_folder: true, ..NOTHING }),
+        Takes { operands: Times { least: 1, greatest: 64 }, indexes: 64, needs_folder: true, ..NOTHING }),
     (CommandKind::ChunkServer, "chunk-server",
         &[(OptionKind::Store, ONCE), (OptionKind::Listen, ONCE), (OptionKind::Writable, AT_MOST_ONCE),
             (OptionKind::Concurrency, AT_MOST_ONCE), (OptionKind::Digest, AT_MOST_ONCE)],
+        Takes { needs_folder: true, ..NOTHING }),
+    (CommandKind::IndexServer, "index-server",
+        &[(OptionKind::Store, ONCE), (OptionKind::Listen, ONCE), (OptionKind::Writable, AT_MOST_ONCE)],
         Takes { needs_folder: true, ..NOTHING }),
     (CommandKind::Demo, "demo",
         &[(OptionKind::Concurrency, AT_MOST_ONCE), (OptionKind::Digest, AT_MOST_ONCE)],
@@ -170,17 +190,23 @@ fn commands() -> &'static [CommandRow]
     &COMMANDS
 }
 
-fn short_among(rows: &[OptionRow], word: &str) -> Option<OptionKind>
-    ensures { result ≡ first_row (λ row. bytes_eq word.now row.1.now) (λ row. row.0) rows.now }
+fn short_among(rows: &[OptionRow], kind: CommandKind, word: &str) -> Option<OptionKind>
+    ensures { let passes = λ row. bytes_eq word.now row.1.now && takes_option kind row.0 in
+        result ≡ first_row passes (λ row. row.0) rows.now }
 {
-    let row = rows.iter().find(|row| word == row.1)?;
+    let row = rows
+        .iter()
+        .find(|row| word == row.1 && kind.takes_option(row.0))?;
     Some(row.0)
 }
 
-fn long_among(rows: &[OptionRow], word: &str) -> Option<OptionKind>
-    ensures { result ≡ first_row (λ row. bytes_eq word.now row.2.now) (λ row. row.0) rows.now }
+fn long_among(rows: &[OptionRow], kind: CommandKind, word: &str) -> Option<OptionKind>
+    ensures { let passes = λ row. bytes_eq word.now row.2.now && takes_option kind row.0 in
+        result ≡ first_row passes (λ row. row.0) rows.now }
 {
-    let row = rows.iter().find(|row| word == row.2)?;
+    let row = rows
+        .iter()
+        .find(|row| word == row.2 && kind.takes_option(row.0))?;
     Some(row.0)
 }
 
@@ -232,7 +258,7 @@ impl OptionKind {
     /// A number of its own, from 0, by which options are told apart.
     pub fn number(self) -> u8
         ensures value { result ≡ option_number self }
-        ensures size { result < 11 }
+        ensures size { result < 13 }
     {
         self as u8
     }
@@ -253,6 +279,13 @@ impl CommandKind {
         times_by(commands(), self, option)
     }
 
+    /// Whether it takes the option at all.
+    pub fn takes_option(self, option: OptionKind) -> bool
+        ensures { result ≡ takes_option self option }
+    {
+        self.times_of(option).greatest > 0
+    }
+
     /// What it takes beside its options.
     pub fn takes(self) -> Takes
         ensures { result ≡ takes_of self }
@@ -261,25 +294,25 @@ impl CommandKind {
     }
 }
 
-// The option of this spelling in one letter, or else its only one.
-fn short_named(word: &str) -> Option<OptionKind>
-    ensures { result ≡ short_named word.now }
+// The option of the command that has this spelling in one letter, or has it alone.
+fn short_named(kind: CommandKind, word: &str) -> Option<OptionKind>
+    ensures { result ≡ short_named kind word.now }
 {
-    short_among(options(), word)
+    short_among(options(), kind, word)
 }
 
-// The option of this spelling in words.
-fn long_named(word: &str) -> Option<OptionKind>
-    ensures { result ≡ long_named word.now }
+// The option of the command that has this spelling in words.
+fn long_named(kind: CommandKind, word: &str) -> Option<OptionKind>
+    ensures { result ≡ long_named kind word.now }
 {
-    long_among(options(), word)
+    long_among(options(), kind, word)
 }
 
-/// The option of this spelling.
-pub fn option_named(word: &str) -> Option<OptionKind>
-    ensures { result ≡ option_named word.now }
+/// The option of the command that is spelled so.
+pub fn option_named(kind: CommandKind, word: &str) -> Option<OptionKind>
+    ensures { result ≡ option_named kind word.now }
 {
-    short_named(word).or(long_named(word))
+    short_named(kind, word).or(long_named(kind, word))
 }
 
 /// The command of this name.

@@ -1,7 +1,7 @@
 //! What each word of a command is. Words are counted from 0, the first word after the command.
 
 ghost use Rattle.std.specs.Prelude.{◌≡◌, ◌<◌, ℕ, List, [], length, map, string_bytes, slice_index_or, IfOk};
-ghost use Rattle.command_words.specs.Roles.{option_of, option_role, spelled_role, opens, awaited, role_of, role_number};
+ghost use Rattle.command_words.specs.Roles.{option_role, spelled_role, opens, awaited, role_of, role_number};
 ghost use Rattle.command_words.specs.Roles.{times_of_role};
 ghost use Rattle.command_words.specs.Roles.{words_as, word_as};
 
@@ -44,18 +44,6 @@ impl Role {
     }
 }
 
-// The option of the command that is spelled so.
-fn option_of(kind: CommandKind, word: &str) -> Option<OptionKind>
-    ensures { result ≡ option_of kind word.now }
-{
-    let option = option_named(word)?;
-    if kind.times_of(option).greatest > 0 {
-        Some(option)
-    } else {
-        None
-    }
-}
-
 // What a word is that begins with `-`, by the option that it spells.
 fn option_role(option: Option<OptionKind>) -> Role
     ensures { result ≡ option_role option }
@@ -76,7 +64,7 @@ fn spelled_role(kind: CommandKind, word: &str) -> Role
     if !word.as_bytes().starts_with(b"-") {
         return Role::Operand;
     }
-    option_role(option_of(kind, word))
+    option_role(option_named(kind, word))
 }
 
 // The option of the role, where its value is the next word.

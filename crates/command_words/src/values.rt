@@ -4,10 +4,11 @@ ghost use Rattle.std.specs.Prelude.{◌≡◌, ◌<◌, ◌≤◌, ◌^◌, ◌�
 ghost use Rattle.std.specs.Prelude.{◌==◌};
 ghost use Rattle.std.specs.Path.{rfind_below};
 ghost use Rattle.std.specs.Str.{IsCharBoundary};
-ghost use Rattle.command_words.specs.Values.{with_digit, with_digits, number_up_to, number_in_word, workers_of};
+ghost use Rattle.command_words.specs.Values.{with_digit, with_digits, number_up_to, number_in_word, workers_of, byte_count_of};
 ghost use Rattle.command_words.specs.Values.{split_at};
-ghost use Rattle.command_words.specs.Values.{kib_of, sizes_of, listen_of, is_seed, digest_of};
+ghost use Rattle.command_words.specs.Values.{kib_of, sizes_of, listen_of, ends_in_caibx, is_seed, digest_of};
 
+use crate::location::is_index_url;
 use chunk_store::id::DigestKind;
 
 // The number that a digit makes of the digits before it.
@@ -58,6 +59,13 @@ pub fn number(least: u64, most: u64, word: &[u8]) -> Option<u64>
 {
     let n = number_up_to(most, word)?;
     if least <= n { Some(n) } else { None }
+}
+
+/// A number of bytes of an image.
+pub fn byte_count(word: &str) -> Option<u64>
+    ensures { result ≡ byte_count_of word.now }
+{
+    number(0, u64::MAX, word.as_bytes())
 }
 
 /// The number of workers.
@@ -122,11 +130,18 @@ pub fn listen(word: &str) -> Option<(&str, u16)>
     Some((&word[..k], n as u16))
 }
 
-/// Whether the word may name a seed's index.
-pub fn is_seed(word: &[u8]) -> bool
-    ensures { result ≡ is_seed word.now }
+// Whether the word ends in `.caibx` and has more before it.
+fn ends_in_caibx(word: &[u8]) -> bool
+    ensures { result ≡ ends_in_caibx word.now }
 {
     word.len() > 6 && word.ends_with(b".caibx")
+}
+
+/// Whether the word may name a seed's index, which is a file beside the seed's image.
+pub fn is_seed(word: &str) -> bool
+    ensures { result ≡ is_seed word.now }
+{
+    ends_in_caibx(word.as_bytes()) && !is_index_url(word)
 }
 
 /// The kind of digest that the word names.

@@ -29,6 +29,7 @@ fn each_topic_is_told_of(rt: HostRuntime) {
     begins(&rt, alloc, Topic::Version, "desync 0.1.0 (rattle-kit-13)\n");
     command_begins(&rt, alloc, CommandKind::Make, "usage: desync make -s STORE");
     command_begins(&rt, alloc, CommandKind::Extract, "usage: desync extract [-k]");
+    command_begins(&rt, alloc, CommandKind::Cat, "usage: desync cat -s STORE..");
     command_begins(&rt, alloc, CommandKind::VerifyIndex, "usage: desync verify-index");
     command_begins(&rt, alloc, CommandKind::Chop, "usage: desync chop");
     command_begins(&rt, alloc, CommandKind::Cache, "usage: desync cache");
@@ -37,5 +38,6 @@ fn each_topic_is_told_of(rt: HostRuntime) {
     command_begins(&rt, alloc, CommandKind::Verify, "usage: desync verify -s");
     command_begins(&rt, alloc, CommandKind::Prune, "usage: desync prune");
     command_begins(&rt, alloc, CommandKind::ChunkServer, "usage: desync chunk-server");
+    command_begins(&rt, alloc, CommandKind::IndexServer, "usage: desync index-server");
     command_begins(&rt, alloc, CommandKind::Demo, "usage: desync demo");
 }

@@ -15,6 +15,8 @@ mod outcome_tests;
 #[cfg(test)]
 mod pieces;
 #[cfg(test)]
+mod place_tests;
+#[cfg(test)]
 mod read_tests;
 #[cfg(test)]
 mod shelf_tests;

@@ -94,6 +94,39 @@ demo 1 1 '' -> 3 Operands
 demo 1 1 1 -> 3 Operands
 info -- -s x -> 3 Operands
 info -> 1 Operands
+cat -s st -o 18446744073709551616 i -> 4 BadNumber
+cat -s st -l 18446744073709551616 i -> 4 BadNumber
+cat -s st -l -1 i -> 4 BadNumber
+cat -s st --length '' i -> 4 BadNumber
+cat -s st -o 07 i -> 4 BadNumber
+cat -s st -o 1 --offset 2 i -> 5 TooMany
+cat -s st -l 1 --length 2 i -> 5 TooMany
+cat -s st --listen h:1 i -> 3 UnknownOption
+cat -s st -w i -> 3 UnknownOption
+cat -l 4 i -> 4 MissingOption
+cat -s st -> 3 Operands
+cat -s st i i -> 4 Operands
+chunk-server -s st --length 1 -> 3 UnknownOption
+chunk-server -s st -l 7 -> 4 BadListen
+index-server -s http://h/ -l h:1 -> 2 NeedsFolder
+index-server -s st -l h:0 -> 4 BadListen
+index-server -s st -> 3 MissingOption
+index-server -l h:1 -> 3 MissingOption
+index-server -s st -l h:1 -w -w -> 6 TooMany
+index-server -s st -l h:1 -n 2 -> 5 UnknownOption
+index-server -s st -l h:1 i -> 5 Operands
+make -s st http://h/a.caibx b -> 3 BadLocation
+make -s st a:// b -> 3 BadLocation
+extract -s st --seed http://h/a.caibx i o -> 4 BadSeed
+extract -s st http://h/ o -> 3 BadLocation
+cat -s st http://h -> 3 BadLocation
+verify-index http://h/a.caibx?q o -> 1 BadLocation
+chop -s st http://h/a.caibx#f o -> 3 BadLocation
+list-chunks https://h/a.caibx -> 1 BadLocation
+info http://u@h/a.caibx -> 1 BadLocation
+cache -s st -c c a http://u:p@h/a.caibx -> 6 BadLocation
+prune -s st -y a b :// -> 6 BadLocation
+list-chunks a http://h/ -> 2 Operands
 ";
 
 // How the words were refused, if they were.
@@ -251,6 +284,70 @@ fn words_of_verify_are_read(rt: HostRuntime) {
         }
         _ => rt.panic("refused"),
     }
+}
+
+// The words are `cat` from this store, with this range and index.
+fn cat_has(
+    rt: &impl Abort,
+    alloc: Global,
+    line: &str,
+    range: (u64, Option<u64>),
+    index_name: &str,
+) {
+    match read_words(alloc, &words_of(rt, alloc, line)) {
+        Ok(
+            Command::Cat {
+                stores,
+                offset,
+                length,
+                index,
+            },
+        ) => {
+            same(rt, stores.as_slice().len(), 1);
+            same(rt, (offset, length), range);
+            same(rt, index.as_str(), index_name);
+        }
+        _ => rt.panic("refused"),
+    }
+}
+
+#[test]
+#[rattlefmt::skip]
+fn words_of_cat_are_read(rt: HostRuntime) {
+    let alloc = rt.alloc();
+    let most = 18446744073709551615;
+    cat_has(&rt, alloc, "cat -s st j.caibx", (0, None), "j.caibx");
+    cat_has(&rt, alloc, "cat -s st -o 2 -l 5 j.caibx", (2, Some(5)), "j.caibx");
+    cat_has(&rt, alloc, "cat j --length 0 -s st", (0, Some(0)), "j");
+    cat_has(&rt, alloc, "cat -s st -o 18446744073709551615 -l 18446744073709551615 -- -l", (most, Some(most)), "-l");
+    cat_has(&rt, alloc, "cat -s st --offset 4 http://h/j.caibx", (4, None), "http://h/j.caibx");
+}
+
+// The words are `index-server` at this address.
+fn index_server_has(rt: &impl Abort, alloc: Global, line: &str, at: (u16, bool), host_name: &str) {
+    match read_words(alloc, &words_of(rt, alloc, line)) {
+        Ok(
+            Command::IndexServer {
+                store,
+                host,
+                port,
+                writable,
+            },
+        ) => {
+            same(rt, store.as_str(), "st");
+            same(rt, host.as_str(), host_name);
+            same(rt, (port, writable), at);
+        }
+        _ => rt.panic("refused"),
+    }
+}
+
+#[test]
+#[rattlefmt::skip]
+fn words_of_index_server_are_read(rt: HostRuntime) {
+    let alloc = rt.alloc();
+    index_server_has(&rt, alloc, "index-server -s st -l localhost:8081", (8081, false), "localhost");
+    index_server_has(&rt, alloc, "index-server -w --listen :1 -s st", (1, true), "");
 }
 
 // The kind of digest that words state, if their command takes one.
