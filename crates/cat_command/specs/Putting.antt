@@ -63,7 +63,6 @@ module _ {S : Type 0} (store : StoreWords S) (at n : ℕ) (old now : ReaderState
   pub record StopsAtEntry (why : ReadRefused) : Type 0 where
     pub stop : RangeStops store at n old now why
     pub puts : PutsText old.index at (bytes_before old.index at stop.entry) p.taken q.taken
-    pub faults : q.faults ≡ p.faults
 
   -- the first m bytes of the range, for which no more than the first k entries are read
   pub record BreaksOff : Type 0 where
@@ -82,7 +81,7 @@ module _ {S : Type 0} (store : StoreWords S) (at n : ℕ) (old now : ReaderState
   EndsPutting (Err (ends.Damaged k id s x)) = StopsAtEntry (reads.Damaged k id s x)
   EndsPutting (Err (ends.StoreFault s)) = StopsAtEntry (reads.StoreFault s)
   EndsPutting (Err ends.OutFault) = Rose p.faults q.faults × BreaksOff
-  EndsPutting (Err ends.Memory) = (StopsAtEntry reads.Memory ⊎ BreaksOff) × (q.faults ≡ p.faults)
+  EndsPutting (Err ends.Memory) = StopsAtEntry reads.Memory ⊎ BreaksOff
   EndsPutting (Err other) = ⊥
 
 -- ---- by stores that nothing is kept of, which go from c to d

@@ -67,6 +67,7 @@ fn put_entry<S: Store, O: Sink>(
         (O.output out.old) (O.output out.new) (Ok tt)) }
     ensures err { IfErr result (λ o. EndsPutting S.Store at (min (end_of reader.old.index i - at) most)
         reader.old reader.new (O.output out.old) (O.output out.new) (Err o)) }
+    ensures faults { (O.output out.old).faults ≤ (O.output out.new).faults }
 {
     reader.index().rules();
     let _asks = reader.asks();
@@ -93,6 +94,7 @@ fn put_range<S: Store, O: Sink>(
     requires inside { range.at + range.size ≤ image_length reader.old.index }
     ensures ends { EndsPutting S.Store range.at range.size reader.old reader.new
         (O.output out.old) (O.output out.new) result }
+    ensures faults { (O.output out.old).faults ≤ (O.output out.new).faults }
 {
     reader.index().rules();
     let _length = reader.index().length();

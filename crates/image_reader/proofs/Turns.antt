@@ -32,7 +32,7 @@ asks_none asked = record { no_less = λ q. omega arith; most = λ q. omega arith
 count_push : (p : Want → Bool) (ws : List Want) (w : Want) (b : Bool) → p w ≡ b → count_by p (ws ++ w ∷ []) ≡ count_by p ws + cond b 1 0
 count_push p ws w b h = sum_by_push (λ x. cond (p x) 1 0) ws w ∙ ap (λ c. count_by p ws + cond c 1 0) h
 
-asks_once_more : (ws : List Want) (w : Want) (old mid new : List ℕ → ℕ) → AsksWants ws old mid → AskedOnce mid new w.id.0 → AsksWants (ws ++ w ∷ []) old new
+pub asks_once_more : (ws : List Want) (w : Want) (old mid new : List ℕ → ℕ) → AsksWants ws old mid → AskedOnce mid new w.id.0 → AsksWants (ws ++ w ∷ []) old new
 asks_once_more ws w old mid new h one = record {
   no_less = λ q. by_id q (bytes_eq w.id.0 q) refl;
   most = λ q. most_by q (bytes_eq w.id.0 q) refl;
@@ -58,7 +58,7 @@ asks_once_more ws w old mid new h one = record {
       omega (arith, h.most q, more)
 
 -- three lists of stores
-each_then : {A : Type 0} (P Q R : A → A → Type 0) → ((a b c : A) → P a b → Q b c → R a c) → (xs ys zs : List A) → AllZip P xs ys → AllZip Q ys zs → AllZip R xs zs
+pub each_then : {A : Type 0} (P Q R : A → A → Type 0) → ((a b c : A) → P a b → Q b c → R a c) → (xs ys zs : List A) → AllZip P xs ys → AllZip Q ys zs → AllZip R xs zs
 each_then P Q R go [] [] [] first then = tt
 each_then P Q R go [] [] (z ∷ zs) first then = absurd then
 each_then P Q R go [] (y ∷ ys) zs first then = absurd first

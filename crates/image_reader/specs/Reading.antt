@@ -3,7 +3,7 @@
 use Rattle.std.specs.Prelude.{◌≡◌, ◌⊎◌, ℕ, ◌+◌, ◌-◌, ◌<◌, ◌≤◌, List, ◌∷◌, map, take, true, false}
 use Rattle.std.specs.List.{AllZip, Any, count_by}
 use Rattle.std.specs.Str.{bytes_eq}
-use Rattle.caibx_codec.specs.Listing.{Listing}
+use Rattle.caibx_codec.specs.Listing.{Listing, id_of}
 use Rattle.chunk_store.specs.Asks.{Get}
 use Rattle.chunk_store.specs.Giving.{IsChunk}
 use Rattle.chunk_store.specs.declared.id.DigestKind.{DigestKind}
@@ -91,6 +91,7 @@ module _ {S : Type 0} (store : StoreWords S) where
       pub told : why ≡ read_refused_of entry (want_of old.index entry).id refused
       pub fails : MissFails store (want_of old.index entry) refused before.chain now.chain
       pub kept : now.kept ≡ take (old.keep - 1) before.kept
+      pub since : KeepsStores store (λ a. a ≡ Get (id_of old.index entry)) before.chain.stores now.chain.stores
       pub stores : KeepsStores store (IsCoveredGet old.index at n) old.chain.stores now.chain.stores
       pub kind : now.chain.kind ≡ old.chain.kind
       pub index : now.index ≡ old.index
