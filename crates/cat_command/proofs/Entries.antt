@@ -1,20 +1,25 @@
 -- How a range is put on by one entry. `old` is the reader as it was first, `mid` and `new` are it before and after the
 -- entry; p, q and r the sink.
-use Rattle.std.proofs.Common.{◌≡◌, ℕ, ◌+◌, ◌-◌, ◌<◌, ◌≤◌, ◌++◌, ◌⊎◌, false, List, [], ◌∷◌, take, Result, Err, refl, sym, ap, subst, ◌∙◌, arith, inl, inr}
+use Rattle.std.proofs.Common.{◌≡◌, ℕ, ◌+◌, ◌-◌, ◌^◌, ◌<◌, ◌≤◌, ◌++◌, ◌⊎◌, false, List, [], ◌∷◌, length, take, Result, Ok, Err, OnOk, refl, sym, ap, subst, ◌∙◌, arith, inl, inr}
 use Rattle.std.proofs.lemmas.Bool.{cases_lt}
 use Rattle.std.proofs.lemmas.List.{append-nil}
+use Rattle.std.specs.Option.{option_map}
 use Rattle.caibx_codec.specs.Listing.{Listing, Rules, count_of, end_of, start_of}
 use Rattle.cat_command.proofs.Parts.{before_entry, covered_wider, none_wanted, part_covered, part_only, part_wanted}
-use Rattle.cat_command.proofs.Pieces.{puts_more, puts_none}
-use Rattle.cat_command.specs.Putting.{BreaksOff, EndsPutting, PutsRange, PutsText, StopsAtEntry, bytes_before, outcome_of_read}
+use Rattle.cat_command.proofs.Pieces.{puts_more, puts_none, text_front}
+use Rattle.cat_command.specs.Putting.{BreaksOff, EndsPutting, IsText, PutsRange, PutsText, StopsAtEntry, bytes_before, outcome_of_read}
 use Rattle.chunk_store.specs.Asks.{Ask}
 use Rattle.chunk_store.specs.declared.store.Store.{Ghosts as StoreWords}
 use Rattle.command_outcome.specs.declared.outcome.Outcome.{Outcome}
 use Rattle.command_outcome.specs.declared.outcome.Outcome.TheVariants as ends
+use Rattle.command_worlds.specs.Printing.{answer_of_put}
 use Rattle.dsy_base.specs.Counts.{Rose}
 use Rattle.dsy_base.specs.Disk.{Output}
+use Rattle.dsy_base.specs.declared.fault.IoFault.{IoFault}
+use Rattle.dsy_base.specs.declared.fault.IoFault.TheVariants as io
 use Rattle.image_reader.proofs.Covering.{wants_taken}
 use Rattle.image_reader.proofs.Follows.{reads_follow}
+use Rattle.image_reader.proofs.Turns.{reads_none}
 use Rattle.image_reader.specs.Covered.{IsCovered, IsCoveredGet, wants_to}
 use Rattle.image_reader.specs.Reading.{RangeStops, ReaderState, ReadsTo}
 use Rattle.image_reader.specs.declared.refused.ReadRefused.{ReadRefused}
@@ -41,7 +46,57 @@ part_stops store from m i old now p q rules listed starts ends same why stop =
       puts = subst P (sym none) (puts_none old.index from p.taken q.taken (ap (λ (o : Output). o.taken) same));
     })
 
-module _ {S : Type 0} (store : StoreWords S) (at n i done m : ℕ) (old mid new : ReaderState S) (p q r : Output) (rules : Rules old.index) (listed : i < count_of old.index) (starts : start_of old.index i ≤ at + done) (ends : at + done + m ≤ end_of old.index i)
+-- a part in one entry for which there was no room: nothing was read and put
+pub part_unread : {S : Type 0} (store : StoreWords S) (from m : ℕ) (old : ReaderState S) (p : Output) → old.chain.asks < 2 ^ 64 → BreaksOff store from m old old p p
+part_unread store from m old p below = record {
+  k = 0;
+  m = 0;
+  listed = omega arith;
+  fits = omega arith;
+  reads = reads_none store from m 0 old refl below (λ i lt. absurd (omega arith));
+  puts = puts_none old.index from p.taken p.taken refl;
+  inside = λ i c. (let cover = c.covers in absurd (omega arith));
+}
+
+-- printing that is done was put
+pub was_put : (r : Result Unit IoFault) (u : Unit {0}) → answer_of_put r ≡ Ok u → (P : Type 0) → OnOk r P → P
+was_put (Ok t) u is P h = h
+was_put (Err io.Failed) u is P h = absurd (cc)
+was_put (Err io.Memory) u is P h = absurd (cc)
+
+-- a part in one entry that the sink refuses: a front of it was put
+module _ {S : Type 0} (store : StoreWords S) (from m i : ℕ) (old now : ReaderState S) (p q : Output) (bytes : List ℕ) (rules : Rules old.index) (listed : i < count_of old.index) (starts : start_of old.index i ≤ from) (short : from + m ≤ end_of old.index i)
+    (read : ReadsTo store from m (count_of old.index) old now) (text : IsText old.index from m bytes) where
+  front_put : (j : ℕ) → j ≤ length bytes → q.taken ≡ option_map (λ t. t ++ take j bytes) p.taken → BreaksOff store from m old now p q
+  front_put j le taken =
+      let fits : j ≤ m = (let size = text.size in omega arith) in
+      record {
+        k = count_of old.index;
+        m = j;
+        listed = omega arith;
+        fits = fits;
+        reads = read;
+        puts = record { text = take j bytes; bytes = text_front old.index rules i from m listed starts short j bytes fits text; taken = taken };
+        inside = λ e c. c.listed;
+      }
+
+  none_put : q.taken ≡ p.taken → BreaksOff store from m old now p q
+  none_put same = record { k = count_of old.index; m = 0; listed = omega arith; fits = omega arith; reads = read; puts = puts_none old.index from p.taken q.taken same; inside = λ e c. c.listed }
+
+  pub part_refused : (r : Result Unit IoFault) → (r ≡ Err io.Failed → (j : ℕ) × (j ≤ length bytes) × (q.taken ≡ option_map (λ t. t ++ take j bytes) p.taken)) → (r ≡ Err io.Memory → q.taken ≡ p.taken) → (r ≡ Err io.Failed → Rose p.faults q.faults)
+      → (o : Outcome) → answer_of_put r ≡ Err o → EndsPutting store from m old now p q (Err o)
+  part_refused (Ok u) front kept rose o is = absurd (cc)
+  part_refused (Err io.Failed) front kept rose o is =
+      let same : ends.OutFault ≡ o = cc in
+      let P : Outcome → Type 0 = λ x. EndsPutting store from m old now p q (Err x) in
+      let f = front refl in
+      subst P same (rose refl, front_put f.0 f.1 f.2)
+  part_refused (Err io.Memory) front kept rose o is =
+      let same : ends.Memory ≡ o = cc in
+      let P : Outcome → Type 0 = λ x. EndsPutting store from m old now p q (Err x) in
+      subst P same (inr (none_put (kept refl)))
+
+module _ {S : Type 0} (store : StoreWords S) (at n i done m : ℕ) (old mid new : ReaderState S) (p q r : Output) (rules : Rules old.index) (listed : i < count_of old.index) (starts : start_of old.index i ≤ at + done) (short : at + done + m ≤ end_of old.index i)
     (some : 0 < m) (fits : done + m ≤ n) (exact : done ≡ bytes_before old.index at i) (before : ReadsTo store at n i old mid) (puts : PutsText old.index at done p.taken q.taken) (faults : q.faults ≡ p.faults) where
   abbrev l : Listing
   l = old.index
@@ -63,17 +118,17 @@ module _ {S : Type 0} (store : StoreWords S) (at n i done m : ℕ) (old mid new 
   inside = covered_wider l at n from m (omega arith) (omega arith)
 
   covered : IsCovered l from m i
-  covered = part_covered l rules i from listed starts m ends some
+  covered = part_covered l rules i from listed starts m short some
 
   -- so many entries of the part were read
   reads_none_more : (k : ℕ) (now : ReaderState S) → k ≤ i → ReadsTo store from m k here now → ReadsTo store at n i old now
   reads_none_more k now le then =
-      let none = none_wanted l rules i from listed starts m ends k le in
+      let none = none_wanted l rules i from listed starts m short k le in
       reads_follow store old here now at n i before_here from m k i then (sym (ap (λ ws. wants_to l at n i ++ ws) none ∙ append-nil (wants_to l at n i))) (λ j lt c. inl lt) inside
 
   reads_one_more : (k : ℕ) (now : ReaderState S) → i < k → k ≤ count_of l → ReadsTo store from m k here now → ReadsTo store at n (i + 1) old now
   reads_one_more k now lt le then =
-      let one = part_wanted l rules i from listed starts m ends some k lt le in
+      let one = part_wanted l rules i from listed starts m short some k lt le in
       reads_follow store old here now at n i before_here from m k (i + 1) then (wants_taken l at n i (inside i covered) ∙ ap (λ ws. wants_to l at n i ++ ws) (sym one)) among inside
     where
       among : (j : ℕ) → j < i + 1 → IsCovered l at n j → (j < i) ⊎ ((j < k) × IsCovered l from m j)
@@ -99,7 +154,7 @@ module _ {S : Type 0} (store : StoreWords S) (at n i done m : ℕ) (old mid new 
   stops_there : (why : ReadRefused) → StopsAtEntry store from m here new q r why → StopsAtEntry store at n old new p r why
   stops_there why h =
       let stop = h.stop in
-      let only = part_only l rules i from listed starts m ends stop.entry stop.covered in
+      let only = part_only l rules i from listed starts m short stop.entry stop.covered in
       let R : ℕ → Type 0 = λ e. ReadsTo store at n e old stop.before in
       let get : (a : Ask) → IsCoveredGet l from m a → IsCoveredGet l at n a = λ a g. record { entry = g.entry; covered = inside g.entry g.covered; asked = g.asked } in
       let B : ℕ → Type 0 = λ e. done + bytes_before l from e ≡ bytes_before l at e in

@@ -1,3 +1,5 @@
 pub mod Entries
+pub mod Given
 pub mod Parts
 pub mod Pieces
+pub mod Ranges

@@ -75,10 +75,12 @@ fn put_entry<S: Store, O: Sink>(
     let Ok(mut bytes) = vec![in alloc; 0u8; size as usize] else {
         return Err(Outcome::Memory);
     };
-    if let Err(refused) = reader.read_at(at, bytes.as_mut_slice()) {
-        return Err(unread(refused));
+    let part = bytes.as_mut_slice();
+    match reader.read_at(at, part) {
+        Ok(()) => {}
+        Err(refused) => return Err(unread(refused)),
     }
-    match printed(out.put(bytes.as_slice())) {
+    match printed(out.put(part)) {
         Ok(()) => Ok(size),
         Err(outcome) => Err(outcome),
     }
@@ -135,6 +137,7 @@ pub(crate) fn put_from<S: Store, O: Sink>(
     if range.size == 0 {
         return (chain, Ok(()));
     }
+    index.rules();
     match ImageReader::new(alloc, index, chain, KEPT_CHUNKS) {
         Ok(mut reader) => {
             let put = put_range(alloc, &mut reader, range, out);
