@@ -1,6 +1,6 @@
 -- How a range is put on by one entry. `old` is the reader as it was first, `mid` and `new` are it before and after the
 -- entry; p, q and r the sink.
-use Rattle.std.proofs.Common.{◌≡◌, ℕ, ◌+◌, ◌-◌, ◌^◌, ◌<◌, ◌≤◌, ◌++◌, ◌⊎◌, false, List, [], ◌∷◌, length, take, Result, Ok, Err, OnOk, refl, sym, ap, subst, ◌∙◌, arith, inl, inr}
+use Rattle.std.proofs.Common.{◌≡◌, ℕ, ◌+◌, ◌^◌, ◌<◌, ◌≤◌, ◌++◌, ◌⊎◌, List, length, take, Result, Ok, Err, OnOk, refl, sym, ap, subst, ◌∙◌, arith, inl, inr}
 use Rattle.std.proofs.lemmas.Bool.{cases_lt}
 use Rattle.std.proofs.lemmas.List.{append-nil}
 use Rattle.std.specs.Option.{option_map}
@@ -27,11 +27,11 @@ use Rattle.image_reader.specs.declared.refused.ReadRefused.TheVariants as reads
 use Rattle.store_chain.proofs.Kept.{kept_on, kept_weaker}
 
 -- a refusal by its outcome
-pub refused_so : {S : Type 0} (store : StoreWords S) (at n : ℕ) (old now : ReaderState S) (p q : Output) (why : ReadRefused) → StopsAtEntry store at n old now p q why → EndsPutting store at n old now p q (Err (outcome_of_read why))
-refused_so store at n old now p q (reads.Missing k id) h = h
-refused_so store at n old now p q (reads.Damaged k id s x) h = h
-refused_so store at n old now p q (reads.StoreFault s) h = h
-refused_so store at n old now p q reads.Memory h = inl h
+pub refused_so : {S : Type 0} (store : StoreWords S) (at n : ℕ) (old now : ReaderState S) (p q : Output) (why : ReadRefused) → q.faults ≡ p.faults → StopsAtEntry store at n old now p q why → EndsPutting store at n old now p q (Err (outcome_of_read why))
+refused_so store at n old now p q (reads.Missing k id) same h = h
+refused_so store at n old now p q (reads.Damaged k id s x) same h = h
+refused_so store at n old now p q (reads.StoreFault s) same h = h
+refused_so store at n old now p q reads.Memory same h = (inl h, same)
 
 -- a part in one entry whose chunk is refused: nothing was put
 pub part_stops : {S : Type 0} (store : StoreWords S) (from m i : ℕ) (old now : ReaderState S) (p q : Output) → Rules old.index → i < count_of old.index → start_of old.index i ≤ from → from + m ≤ end_of old.index i → q ≡ p → (why : ReadRefused) → RangeStops store from m old now why
@@ -41,7 +41,7 @@ part_stops store from m i old now p q rules listed starts ends same why stop =
     let B : ℕ → Type 0 = λ e. bytes_before old.index from e ≡ 0 in
     let none : bytes_before old.index from stop.entry ≡ 0 = subst B (sym only) (omega (arith, starts)) in
     let P : ℕ → Type 0 = λ k. PutsText old.index from k p.taken q.taken in
-    refused_so store from m old now p q why (record {
+    refused_so store from m old now p q why (ap (λ (o : Output). o.faults) same) (record {
       stop = stop;
       puts = subst P (sym none) (puts_none old.index from p.taken q.taken (ap (λ (o : Output). o.taken) same));
     })
@@ -83,18 +83,18 @@ module _ {S : Type 0} (store : StoreWords S) (from m i : ℕ) (old now : ReaderS
   none_put : q.taken ≡ p.taken → BreaksOff store from m old now p q
   none_put same = record { k = count_of old.index; m = 0; listed = omega arith; fits = omega arith; reads = read; puts = puts_none old.index from p.taken q.taken same; inside = λ e c. c.listed }
 
-  pub part_refused : (r : Result Unit IoFault) → (r ≡ Err io.Failed → (j : ℕ) × (j ≤ length bytes) × (q.taken ≡ option_map (λ t. t ++ take j bytes) p.taken)) → (r ≡ Err io.Memory → q.taken ≡ p.taken) → (r ≡ Err io.Failed → Rose p.faults q.faults)
+  pub part_refused : (r : Result Unit IoFault) → (r ≡ Err io.Failed → (j : ℕ) × (j ≤ length bytes) × (q.taken ≡ option_map (λ t. t ++ take j bytes) p.taken)) → (r ≡ Err io.Memory → q.taken ≡ p.taken) → (r ≡ Err io.Failed → Rose p.faults q.faults) → (r ≡ Err io.Memory → q.faults ≡ p.faults)
       → (o : Outcome) → answer_of_put r ≡ Err o → EndsPutting store from m old now p q (Err o)
-  part_refused (Ok u) front kept rose o is = absurd (cc)
-  part_refused (Err io.Failed) front kept rose o is =
+  part_refused (Ok u) front kept rose still o is = absurd (cc)
+  part_refused (Err io.Failed) front kept rose still o is =
       let same : ends.OutFault ≡ o = cc in
       let P : Outcome → Type 0 = λ x. EndsPutting store from m old now p q (Err x) in
       let f = front refl in
       subst P same (rose refl, front_put f.0 f.1 f.2)
-  part_refused (Err io.Memory) front kept rose o is =
+  part_refused (Err io.Memory) front kept rose still o is =
       let same : ends.Memory ≡ o = cc in
       let P : Outcome → Type 0 = λ x. EndsPutting store from m old now p q (Err x) in
-      subst P same (inr (none_put (kept refl)))
+      subst P same (inr (none_put (kept refl)), still refl)
 
 module _ {S : Type 0} (store : StoreWords S) (at n i done m : ℕ) (old mid new : ReaderState S) (p q r : Output) (rules : Rules old.index) (listed : i < count_of old.index) (starts : start_of old.index i ≤ at + done) (short : at + done + m ≤ end_of old.index i)
     (some : 0 < m) (fits : done + m ≤ n) (exact : done ≡ bytes_before old.index at i) (before : ReadsTo store at n i old mid) (puts : PutsText old.index at done p.taken q.taken) (faults : q.faults ≡ p.faults) where
@@ -226,7 +226,7 @@ module _ {S : Type 0} (store : StoreWords S) (at n i done m : ℕ) (old mid new 
   ends_here (ends.Damaged k id s x) h = stops_there (reads.Damaged k id s x) h
   ends_here (ends.StoreFault s) h = stops_there (reads.StoreFault s) h
   ends_here ends.OutFault h = let P : ℕ → Type 0 = λ f. Rose f r.faults in (subst P faults h.0, breaks_there h.1)
-  ends_here ends.Memory h = elim h [ inl stop ↦ inl (stops_there reads.Memory stop) | inr off ↦ inr (breaks_there off) ]
+  ends_here ends.Memory h = (elim h.0 [ inl stop ↦ inl (stops_there reads.Memory stop) | inr off ↦ inr (breaks_there off) ], h.1 ∙ faults)
   ends_here other h = absurd h
 
   pub next_ends : (o : Outcome) → EndsPutting store from m mid new q r (Err o) → EndsPutting store at n old new p r (Err o)

@@ -1,10 +1,10 @@
 -- What was got of stores by a reader that kept nothing first, and how often they were asked.
-use Rattle.std.proofs.Common.{◌≡◌, ℕ, zero, suc, ◌+◌, ◌-◌, ◌<◌, ◌≤◌, ◌++◌, ◌⊎◌, Bool, false, true, cond, List, [], ◌∷◌, length, map, Some, Result, Ok, Err, refl, sym, ap, subst, ◌∙◌, arith, inl, inr}
+use Rattle.std.proofs.Common.{◌≡◌, ℕ, zero, suc, ◌+◌, ◌-◌, ◌≤◌, ◌++◌, false, true, cond, List, [], ◌∷◌, map, Result, Ok, Err, refl, sym, ap, subst, ◌∙◌, arith, inl, inr}
 use Rattle.std.proofs.lemmas.List.{append-nil, append_assoc}
 use Rattle.std.proofs.lemmas.List.Sums.{sum_by-append}
 use Rattle.std.specs.List.{AllZip}
 use Rattle.std.specs.Str.{bytes_eq}
-use Rattle.caibx_codec.specs.Listing.{Listing, Rules, count_of, start_of}
+use Rattle.caibx_codec.specs.Listing.{Listing, Rules, count_of}
 use Rattle.cat_command.proofs.Parts.{before_entry, covered_wider}
 use Rattle.cat_command.proofs.Pieces.{puts_none}
 use Rattle.cat_command.specs.Putting.{BreaksOff, EndsGiving, EndsPutting, PutsGiven, PutsRange, PutsUntil, StopsAtEntry, bytes_before, chunk_at}
@@ -21,10 +21,10 @@ use Rattle.image_reader.proofs.Covering.{next_is, wants_taken}
 use Rattle.image_reader.proofs.Got.{shown_still}
 use Rattle.image_reader.proofs.Steps.{missed_on, missed_push}
 use Rattle.image_reader.proofs.Turns.{asks_once_more, each_then}
-use Rattle.image_reader.specs.Covered.{IsCovered, IsCoveredGet, covers_entry, want_of, wants_of, wants_to}
+use Rattle.image_reader.specs.Covered.{IsCoveredGet, covers_entry, want_of, wants_of, wants_to}
 use Rattle.image_reader.specs.Keeping.{has_want, missed, step}
 use Rattle.image_reader.specs.Reading.{AsksWants, IsGot, IsHad, RangeStops, ReaderState, ReadsTo}
-use Rattle.image_reader.specs.Refusals.{MissFails, RefusesWant, read_refused_of}
+use Rattle.image_reader.specs.Refusals.{MissFails, read_refused_of}
 use Rattle.image_reader.specs.declared.refused.ReadRefused.{ReadRefused}
 use Rattle.image_reader.specs.declared.refused.ReadRefused.TheVariants as reads
 use Rattle.image_reader.specs.declared.want.Want.{Want}
@@ -37,7 +37,7 @@ use Rattle.store_chain.specs.declared.refused.Refused.TheVariants as refused
 
 -- ---- how often they were asked
 
-each_weaker : {A : Type 0} (P R : A → A → Type 0) → ((a b : A) → P a b → R a b) → (xs ys : List A) → AllZip P xs ys → AllZip R xs ys
+pub each_weaker : {A : Type 0} (P R : A → A → Type 0) → ((a b : A) → P a b → R a b) → (xs ys : List A) → AllZip P xs ys → AllZip R xs ys
 each_weaker P R go [] [] all = tt
 each_weaker P R go [] (y ∷ ys) all = absurd all
 each_weaker P R go (x ∷ xs) [] all = absurd all
@@ -127,8 +127,8 @@ module _ {S : Type 0} (store : StoreWords S) (at n : ℕ) (l : Listing) (c : Cha
   ends_last (Err (ends.Damaged k id s x)) h = stop_lasts (reads.Damaged k id s x) h.stop
   ends_last (Err (ends.StoreFault s)) h = stop_lasts (reads.StoreFault s) h.stop
   ends_last (Err ends.OutFault) h = reads_last h.1.k h.1.listed h.1.reads
-  ends_last (Err ends.Memory) (inl h) = stop_lasts reads.Memory h.stop
-  ends_last (Err ends.Memory) (inr h) = reads_last h.k h.listed h.reads
+  ends_last (Err ends.Memory) (inl h, same) = stop_lasts reads.Memory h.stop
+  ends_last (Err ends.Memory) (inr h, same) = reads_last h.k h.listed h.reads
   ends_last (Err other) h = absurd h
 
   -- ---- what was got
@@ -240,8 +240,8 @@ module _ {S : Type 0} (store : StoreWords S) (at n : ℕ) (l : Listing) (c : Cha
       let s = h.stop in
       (s.entry, (want_of l s.entry).id, failed_until rules (reads.StoreFault t) h s.refused t s.told (no_memory s.entry (want_of l s.entry).id s.refused (reads.StoreFault t) s.told (λ is. absurd (cc))) s.fails)
   ends_given rules (Err ends.OutFault) h = (h.0, (h.1.m, off_given h.1))
-  ends_given rules (Err ends.Memory) (inl h) = (bytes_before l at h.stop.entry, stop_given rules reads.Memory h)
-  ends_given rules (Err ends.Memory) (inr h) = (h.m, off_given h)
+  ends_given rules (Err ends.Memory) (inl h, same) = ((bytes_before l at h.stop.entry, stop_given rules reads.Memory h), same)
+  ends_given rules (Err ends.Memory) (inr h, same) = ((h.m, off_given h), same)
   ends_given rules (Err other) h = absurd h
 
 -- nothing was asked of them

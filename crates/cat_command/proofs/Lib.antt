@@ -1,3 +1,5 @@
+pub mod AnyWords
+pub mod Between
 pub mod Entries
 pub mod Given
 pub mod Parts

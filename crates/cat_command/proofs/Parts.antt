@@ -1,5 +1,5 @@
 -- Which entries ranges cover that lie in one another, or in one entry.
-use Rattle.std.proofs.Common.{◌≡◌, ℕ, ◌+◌, ◌-◌, ◌<◌, ◌≤◌, ◌++◌, List, [], ◌∷◌, max, min, refl, sym, ap, subst, ◌∙◌, arith, inl, inr}
+use Rattle.std.proofs.Common.{◌≡◌, ℕ, ◌+◌, ◌-◌, ◌<◌, ◌≤◌, ◌++◌, List, [], ◌∷◌, max, min, ap, subst, ◌∙◌, arith, inl, inr}
 use Rattle.std.proofs.lemmas.Bool.{cases_lt}
 use Rattle.caibx_codec.specs.Listing.{Listing, Rules, count_of, start_of, end_of, image_length}
 use Rattle.image_reader.proofs.Covering.{all_passed, none_yet, wants_taken}

@@ -1,5 +1,5 @@
 -- Texts that are put piece by piece.
-use Rattle.std.proofs.Common.{◌≡◌, ℕ, zero, suc, ◌+◌, ◌-◌, ◌<◌, ◌≤◌, ◌++◌, ◌⊎◌, List, [], length, take, drop, slice_range, Option, Some, None, refl, sym, ap, subst, ◌∙◌, arith, inl, inr}
+use Rattle.std.proofs.Common.{◌≡◌, ℕ, ◌+◌, ◌-◌, ◌<◌, ◌≤◌, ◌++◌, List, [], take, drop, slice_range, Option, Some, None, refl, sym, ap, subst, ◌∙◌, arith, inl, inr}
 use Rattle.std.proofs.lemmas.Bool.{cases_lt}
 use Rattle.std.proofs.lemmas.List.{append-nil, append_assoc, length-append, length-take, take-take}
 use Rattle.std.specs.Option.{option_map}
@@ -8,7 +8,7 @@ use Rattle.cat_command.proofs.Parts.{part_covered, part_only, right_narrower, tw
 use Rattle.cat_command.specs.Putting.{IsText, PutsText}
 use Rattle.image_reader.proofs.Fronts.{ranges_join}
 use Rattle.image_reader.specs.Covered.{IsCovered}
-use Rattle.image_reader.specs.Images.{HasTwinsIn, IsRange, IsRightInRange}
+use Rattle.image_reader.specs.Images.{IsRange, IsRightInRange}
 
 module _ (l : Listing) (at : ℕ) where
   -- no bytes

@@ -1,6 +1,6 @@
 -- How far a range was put: `done` bytes, up to entry i, of which m are next.
 use Rattle.std.proofs.Common.{◌≡◌, ℕ, ◌+◌, ◌-◌, ◌<◌, ◌≤◌, min, subst, arith}
-use Rattle.caibx_codec.specs.Listing.{Listing, Rules, count_of, end_of, image_length, start_of}
+use Rattle.caibx_codec.specs.Listing.{Listing, Rules, count_of, end_of, image_length}
 use Rattle.cat_command.specs.Putting.{PutsRange, PutsText, bytes_before}
 use Rattle.chunk_store.specs.declared.store.Store.{Ghosts as StoreWords}
 use Rattle.dsy_base.specs.Disk.{Output}

@@ -81,7 +81,7 @@ module _ (stores : List Location) (l : Listing) (at n : ℕ) (w v : World) where
   EndsRange (Err (ends.Damaged k id s x)) = PutsBefore k id (refused.Damaged s x)
   EndsRange (Err (ends.StoreFault s)) = (k : ℕ) × (id : ChunkId) × PutsBefore k id (refused.StoreFault s)
   EndsRange (Err ends.OutFault) = Rose w.out.faults v.out.faults × ((m : ℕ) × PutsFirst m)
-  EndsRange (Err ends.Memory) = (m : ℕ) × PutsFirst m
+  EndsRange (Err ends.Memory) = ((m : ℕ) × PutsFirst m) × (v.out.faults ≡ w.out.faults)
   EndsRange (Err other) = ⊥
 
 -- servers are asked only for chunks of covered entries, and sent fronts of such requests

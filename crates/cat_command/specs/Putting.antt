@@ -2,7 +2,7 @@
 -- from the offset `at` on.
 use Rattle.std.specs.Prelude.{◌≡◌, ◌⊎◌, ℕ, ◌-◌, ◌<◌, ◌≤◌, ◌++◌, List, length, map, Option, Some, Result, Ok, Err}
 use Rattle.std.specs.Option.{option_map}
-use Rattle.caibx_codec.specs.Listing.{Listing, count_of, id_of, size_of, start_of}
+use Rattle.caibx_codec.specs.Listing.{Listing, count_of, size_of, start_of}
 use Rattle.chunk_store.specs.declared.id.ChunkId.{ChunkId}
 use Rattle.chunk_store.specs.declared.id.DigestKind.{DigestKind}
 use Rattle.chunk_store.specs.declared.store.Store.{Ghosts as StoreWords}
@@ -81,7 +81,7 @@ module _ {S : Type 0} (store : StoreWords S) (at n : ℕ) (old now : ReaderState
   EndsPutting (Err (ends.Damaged k id s x)) = StopsAtEntry (reads.Damaged k id s x)
   EndsPutting (Err (ends.StoreFault s)) = StopsAtEntry (reads.StoreFault s)
   EndsPutting (Err ends.OutFault) = Rose p.faults q.faults × BreaksOff
-  EndsPutting (Err ends.Memory) = StopsAtEntry reads.Memory ⊎ BreaksOff
+  EndsPutting (Err ends.Memory) = (StopsAtEntry reads.Memory ⊎ BreaksOff) × (q.faults ≡ p.faults)
   EndsPutting (Err other) = ⊥
 
 -- ---- by stores that nothing is kept of, which go from c to d
@@ -110,5 +110,5 @@ module _ {S : Type 0} (store : StoreWords S) (l : Listing) (at n : ℕ) (c d : C
   EndsGiving (Err (ends.Damaged k id s x)) = PutsUntil k id (refused.Damaged s x)
   EndsGiving (Err (ends.StoreFault s)) = (k : ℕ) × (id : ChunkId) × PutsUntil k id (refused.StoreFault s)
   EndsGiving (Err ends.OutFault) = Rose p.faults q.faults × ((m : ℕ) × PutsGiven m)
-  EndsGiving (Err ends.Memory) = (m : ℕ) × PutsGiven m
+  EndsGiving (Err ends.Memory) = ((m : ℕ) × PutsGiven m) × (q.faults ≡ p.faults)
   EndsGiving (Err other) = ⊥

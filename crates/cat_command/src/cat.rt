@@ -47,6 +47,7 @@ fn put_stored<F: Files, D: Dial, O: Sink>(
         (world (F.disk files.old) (D.state dial.old) (O.output out.old)) result
         (world (F.disk files.new) (D.state dial.new) (O.output out.new)) }
 {
+    index.rules();
     let opened = open_sources(alloc, files, dial, stores)?;
     let chain = Chain::with_kind(index.kind(), opened);
     let (chain, put) = put_from(alloc, index, chain, range, out);

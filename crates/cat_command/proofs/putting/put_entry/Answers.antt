@@ -1,16 +1,16 @@
-use Rattle.std.proofs.Common.{◌≡◌, ℕ, ◌+◌, ◌-◌, ◌<◌, ◌≤◌, ◌++◌, List, min, length, take, Err, Ok, refl, sym, ap, subst, ◌∙◌, arith, inl, inr}
+use Rattle.std.proofs.Common.{◌≡◌, ℕ, ◌-◌, ◌++◌, List, min, length, Err, Ok, refl, sym, subst, ◌∙◌, arith, inr}
 use Rattle.std.specs.Option.{option_map}
-use Rattle.caibx_codec.specs.Listing.{Listing, Rules, count_of, end_of, start_of}
+use Rattle.caibx_codec.specs.Listing.{Listing, Rules, count_of, end_of}
 use Rattle.cat_command.proofs.Entries.{part_refused, part_stops, part_unread, was_put}
-use Rattle.cat_command.specs.Putting.{EndsPutting, IsText}
+use Rattle.cat_command.specs.Putting.{EndsPutting}
 use Rattle.command_outcome.specs.declared.outcome.Outcome.{Outcome}
 use Rattle.command_worlds.specs.Printing.{answer_of_put}
 use Rattle.image_reader.specs.Images.{IsRange, IsRightInRange}
-use Rattle.image_reader.specs.Reading.{RangeStops, ReaderState, ReadsTo}
+use Rattle.image_reader.specs.Reading.{RangeStops, ReadsTo}
 use Rattle.cat_command.proofs.putting.put_entry.Goals as goal
 
 pub returns-in_default-clause-err : goal.returns-in_default-clause-err
-returns-in_default-clause-err g c = inr (part_unread g.S.Store c.args.at (min (end_of c.args.reader.now.index c.args.i - c.args.at) c.args.most) c.args.reader.now (g.O.Sink.output c.args.out.now) c.asks-asks.ensures.below)
+returns-in_default-clause-err g c = (inr (part_unread g.S.Store c.args.at (min (end_of c.args.reader.now.index c.args.i - c.args.at) c.args.most) c.args.reader.now (g.O.Sink.output c.args.out.now) c.asks-asks.ensures.below), refl)
 
 pub returns-in-Err-clause-err : goal.returns-in-Err-clause-err
 returns-in-Err-clause-err g c =
@@ -56,4 +56,4 @@ returns-clause-err g c =
     let p = g.O.Sink.output c.args.out.now in
     let q = g.O.Sink.output c.put.new.self in
     part_refused g.S.Store c.args.at m c.args.i c.args.reader.now c.read_at.new.self p q c.read_at.new.out rules c.requires.listed c.requires.from (omega (arith, c.requires.to)) (subst N size c.in-Ok-read_at.ensures.ok)
-    (record { size = c.read_at.auto.out ∙ size; right = subst T size c.in-Ok-read_at.ensures.right }) c.put.result c.put.ensures.err c.put.ensures.kept c.put.ensures.faults.cause c.in-Err-printed.outcome (sym c.printed.ensures ∙ c.in-Err-printed.is)
+    (record { size = c.read_at.auto.out ∙ size; right = subst T size c.in-Ok-read_at.ensures.right }) c.put.result c.put.ensures.err c.put.ensures.kept c.put.ensures.faults.cause c.put.ensures.faults.unfailed c.in-Err-printed.outcome (sym c.printed.ensures ∙ c.in-Err-printed.is)

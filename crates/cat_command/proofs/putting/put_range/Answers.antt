@@ -1,9 +1,8 @@
-use Rattle.std.proofs.Common.{◌≡◌, ℕ, ◌+◌, ◌-◌, ◌<◌, ◌≤◌, min, Err, refl, ap, subst, ◌∙◌, arith}
-use Rattle.caibx_codec.specs.Listing.{Listing, Rules, count_of, end_of, start_of}
+use Rattle.std.proofs.Common.{◌≡◌, ℕ, ◌+◌, ◌-◌, ◌<◌, ◌≤◌, min, refl, ap, subst, ◌∙◌, arith}
+use Rattle.caibx_codec.specs.Listing.{Listing, Rules, count_of, end_of}
 use Rattle.cat_command.proofs.Entries.{next_ends, next_puts, next_reads}
 use Rattle.cat_command.proofs.Pieces.{puts_none}
 use Rattle.cat_command.proofs.Ranges.{next_exact, next_fits, next_short, next_some, range_put}
-use Rattle.cat_command.specs.Putting.{EndsPutting}
 use Rattle.image_reader.proofs.Covering.{at_end, at_first, at_next, none_covered, none_yet}
 use Rattle.image_reader.proofs.Turns.{reads_none}
 use Rattle.cat_command.proofs.putting.put_range.Goals as goal
