@@ -15,7 +15,7 @@ use Rattle.desync_cli.proofs.ExactCache.{caches_so}
 use Rattle.desync_cli.proofs.ExactExtract.{extracts_so}
 use Rattle.desync_cli.proofs.ExactFolders.{prunes_so, verifies_so}
 use Rattle.desync_cli.proofs.ExactImages.{chops_so, makes_so}
-use Rattle.desync_cli.proofs.ExactServing.{serves_so}
+use Rattle.desync_cli.proofs.ExactServing.{chunk_server_so, index_server_so}
 use Rattle.desync_cli.proofs.ExactTexts.{demonstrates_so, lists_so, prints_so, tells_so, verifies_index_so}
 use Rattle.desync_cli.proofs.Fair.{begun, if_any, if_some}
 use Rattle.desync_cli.proofs.Readings.{EndsSo, IsQuiet, at_first}
@@ -23,7 +23,7 @@ use Rattle.desync_cli.specs.Commands.{CommandEnds, DesyncEnds, NoCommand, comman
 use Rattle.desync_cli.specs.Contents.{Contents}
 use Rattle.desync_cli.specs.Exact.{EndingOf, IsExact, IsFaultless}
 use Rattle.extract_command.specs.Extract.{never_fail}
-use Rattle.store_commands.specs.Serving.{Heard}
+use Rattle.server_commands.specs.Serving.{Heard}
 use Rattle.std.proofs.lemmas.Option.{none-some}
 
 quiet : {p : Parts} {w v : World} {x : Contents} → IsFaultless p w v x → IsQuiet w v
@@ -44,7 +44,8 @@ module _ (sure : Bool) (k : Heard) (x : Contents) (w v : World) where
   command_exact commands.Help f = prints_so x w v (quiet f) (help_text topics.All) w (at_first x w f.tells)
   command_exact commands.Version f = prints_so x w v (quiet f) (help_text topics.Version) w (at_first x w f.tells)
   command_exact (commands.HelpOn kind) f = prints_so x w v (quiet f) (help_text (topics.Command kind)) w (at_first x w f.tells)
-  command_exact (commands.ChunkServer store host port writable workers digest) f = serves_so x w v (quiet f) k f.listener digest store writable workers f.tells
+  command_exact (commands.ChunkServer store host port writable workers digest) f = chunk_server_so x w v (quiet f) k f.listener digest store writable workers f.tells
+  command_exact (commands.IndexServer store host port writable) f = index_server_so x w v (quiet f) k f.listener store writable f.tells
 
 -- words that are no command, or for which there was no memory
 words_exact : (words : List (List ℕ)) (k : Heard) (w v : World) (o : Outcome) → NoCommand words o → IfSome (command_of words) (λ c. (x : Contents) → IsFaultless (parts k c) w v x → IsExact k c x o v)

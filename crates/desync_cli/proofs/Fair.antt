@@ -31,7 +31,7 @@ use Rattle.extract_command.proofs.Wrote.{wrote_on}
 use Rattle.extract_command.specs.Extract.{CacheFilled, Clearing, FillsCache, ImageMade, Into, NeverFail, OutMade, Renamed, Seeds, beside, in_place, never_fail, temporary_out}
 use Rattle.store_commands.specs.Info.{IdsCounted, NotAsked}
 use Rattle.image_commands.specs.Make.{ImageStored, IndexWritten, SizesJudged, WritesStore}
-use Rattle.store_commands.specs.Serving.{FolderServed, Heard, TakenUnheard}
+use Rattle.server_commands.specs.Serving.{FolderServed, FolderServing, Heard, TakenUnheard}
 use Rattle.store_commands.specs.VerifyIndex.{ImageChecked}
 use Rattle.verify_tool.specs.Pruning.{is_listed_in}
 use Rattle.store_commands.specs.Prune.{StorePruned}
@@ -263,7 +263,7 @@ pruned_step f n o x p keeps q held same = record { fair = fair; leaves = leaves 
   leaves d e (Ok u) h = adds p h.1
   leaves d e (Err r) h = adds p h.1
 
--- ---- the steps of `chunk-server`
+-- ---- the steps of servers
 
 unheard_step : (f n o : Bool) (x : Parts) (p : Unread) (h : Heard) (q : List ℕ) → IsStep (round p) (record { files = f; folders = false; dial = n; out = o }) x (TakenUnheard h q)
 unheard_step f n o x p h q = record { fair = λ d e r t. (taken_step f n o x p [] q).fair d e r t.0; leaves = leaves } where
@@ -271,15 +271,15 @@ unheard_step f n o x p h q = record { fair = λ d e r t. (taken_step f n o x p [
   leaves d e (Ok held) t = (taken_step f n o x p [] q).leaves d e (Ok held) t
   leaves d e (Err r) t = (taken_step f n o x p [] q).leaves d e (Err r) t.0
 
-served_step : (f n o : Bool) (x : Parts) (p : Unread) (kind : DigestKind) (in_turn : Bool) (h : Heard) (writable : Bool) (q : List ℕ) (held : Option (Map (List ℕ))) → x.listener ≡ (h.old.faults, h.new.faults)
-    → IsStep (round p) (record { files = f; folders = false; dial = n; out = o }) x (FolderServed kind in_turn h writable q held)
-served_step f n o x p kind in_turn h writable q held same = record { fair = fair; leaves = leaves } where
-  fair : (d e : Disk) (r : Outcome) → FolderServed kind in_turn h writable q held d (Err r) e → IsFair x r (round p d) (round p e)
+served_step : (f n o : Bool) (x : Parts) (p : Unread) (h : Heard) (q : List ℕ) (held : Option (Map (List ℕ))) (served short : FolderServing) → x.listener ≡ (h.old.faults, h.new.faults)
+    → IsStep (round p) (record { files = f; folders = false; dial = n; out = o }) x (FolderServed h q held served short)
+served_step f n o x p h q held served short same = record { fair = fair; leaves = leaves } where
+  fair : (d e : Disk) (r : Outcome) → FolderServed h q held served short d (Err r) e → IsFair x r (round p d) (round p e)
   fair d e ends.ListenFault t = (tt, subst (λ (y : ℕ × ℕ). Rose y.0 y.1) (sym same) t.0.0)
   fair d e ends.Memory t = (tt, tt)
   fair d e other t = absurd t.0
 
-  leaves : (d e : Disk) (r : Result Unit Outcome) → FolderServed kind in_turn h writable q held d r e → IsLeft (record { files = f; folders = false; dial = n; out = o }) (round p d) (round p e)
+  leaves : (d e : Disk) (r : Result Unit Outcome) → FolderServed h q held served short d r e → IsLeft (record { files = f; folders = false; dial = n; out = o }) (round p d) (round p e)
   leaves d e (Ok u) t = adds p t.1
   leaves d e (Err r) t = adds p t.1
 
@@ -308,7 +308,8 @@ command_step sure h (commands.Demo number size workers digest) = bound (pure_ste
 command_step sure h commands.Help = on_out (λ d. printed_step _ _ _ _ d (help_text topics.All))
 command_step sure h commands.Version = on_out (λ d. printed_step _ _ _ _ d (help_text topics.Version))
 command_step sure h (commands.HelpOn kind) = on_out (λ d. printed_step _ _ _ _ d (help_text (topics.Command kind)))
-command_step sure h (commands.ChunkServer store host port writable workers digest) = bound (on_disk (λ p. unheard_step _ _ _ _ p h store)) (λ held. on_disk (λ p. served_step _ _ _ _ p digest (workers == 1) h writable store held refl))
+command_step sure h (commands.ChunkServer store host port writable workers digest) = bound (on_disk (λ p. unheard_step _ _ _ _ p h store)) (λ held. on_disk (λ p. served_step _ _ _ _ p h store held _ _ refl))
+command_step sure h (commands.IndexServer store host port writable) = bound (on_disk (λ p. unheard_step _ _ _ _ p h store)) (λ held. on_disk (λ p. served_step _ _ _ _ p h store held _ _ refl))
 
 -- a command that listens is none that doesn't
 pub none_such : {A : Type 0} → true ≡ false → A
@@ -401,6 +402,7 @@ words_quiet words other h = absurd h
 -- a listener that isn't used hasn't failed
 quiet_listener : (k : Heard) (c : Command) → Quiet k.old.faults k.new.faults → Quiet (parts k c).listener.0 (parts k c).listener.1
 quiet_listener k (commands.ChunkServer store host port writable workers digest) h = h
+quiet_listener k (commands.IndexServer store host port writable) h = h
 quiet_listener k other h = record { same = omega arith; below = omega arith }
 
 pub nothing_failed : (sure : Bool) (k : Heard) (words : List (List ℕ)) (w v : World) (r : Result Unit Outcome) → DesyncEnds sure k words w r v → NoFault w v → Quiet k.old.faults k.new.faults → IfSome (command_of words) (λ c. All (RepliesTaken w v) (parts k c).stores) → NothingFailed (outcome_of r)

@@ -31,7 +31,7 @@ use Rattle.desync_cli.specs.Commands.{DesyncEnds, CommandEnds, NoCommand, comman
 use Rattle.desync_cli.proofs.Fair.{begun}
 use Rattle.desync_cli.proofs.Named.{AllShort, Shorts, bound, cache_opened, checked, chopped, counted, filled, image_opened, index_read, indexes_read, judged as sizes_judged, on_disk, on_out, on_sources, opened, out_made, printed, pruned, rehearsed, served, source_taken, stored, taken, unheard, verified, written}
 use Rattle.extract_command.specs.Extract.{never_fail, temporary_out}
-use Rattle.store_commands.specs.Serving.{Heard}
+use Rattle.server_commands.specs.Serving.{Heard}
 
 -- the names that a command has
 abbrev named : Option (List ℕ) → List (List ℕ)
@@ -50,6 +50,7 @@ HasShort n (commands.Info stores index) = AllShort n (map folder_name stores) ×
 HasShort n (commands.Verify store repair workers digest) = length store ≤ n
 HasShort n (commands.Prune store indexes) = (length store ≤ n) × AllShort n indexes
 HasShort n (commands.ChunkServer store host port writable workers digest) = length store ≤ n
+HasShort n (commands.IndexServer store host port writable) = length store ≤ n
 HasShort n other = Unit {0}
 
 -- and so are those that its refusals tell
@@ -70,7 +71,8 @@ command_short n sure h (commands.Demo number size workers digest) f = bound (reh
 command_short n sure h commands.Help f = on_out (printed n _)
 command_short n sure h commands.Version f = on_out (printed n _)
 command_short n sure h (commands.HelpOn kind) f = on_out (printed n _)
-command_short n sure h (commands.ChunkServer store host port writable workers digest) f = bound (on_disk (unheard n h store f)) (λ held. on_disk (served n digest (workers == 1) h writable store held))
+command_short n sure h (commands.ChunkServer store host port writable workers digest) f = bound (on_disk (unheard n h store f)) (λ held. on_disk (served n h store held _ _))
+command_short n sure h (commands.IndexServer store host port writable) f = bound (on_disk (unheard n h store f)) (λ held. on_disk (served n h store held _ _))
 
 -- ---- the words
 
@@ -102,7 +104,7 @@ module _ (k : ℕ) where
 
   url_short : (r : _) → ShortPlace (url_location r)
   url_short (Ok u) = either ShortPlace (is_plain_http u) (Ok (server_of u)) (Err no.Bad) (omega arith) (omega arith)
-  url_short (Err e) = either ShortPlace (is_out_of_room e) (Err no.Memory) (Err no.Bad) (omega arith) (omega arith)
+  url_short (Err e) = omega arith
 
   place_short : (w : List ℕ) → length w ≤ k → ShortPlace (location_of w)
   place_short w le = either ShortPlace (list_any (λ c. c == 124) w) (Err no.Bad) _ (omega arith) (either ShortPlace (contains_scheme w) _ (Ok (locations.Folder w)) (search url_short) le)
@@ -143,6 +145,7 @@ module _ (k : ℕ) where
     parsed_short kinds.Verify = one (role.Value option.Store) 0
     parsed_short kinds.Prune = (one (role.Value option.Store) 0, longer _ (as_role role.Operand))
     parsed_short kinds.ChunkServer = one (role.Value option.Store) 0
+    parsed_short kinds.IndexServer = one (role.Value option.Store) 0
     parsed_short kinds.Demo = tt
 
   completed : (m : Option UsageWhy) (place : ℕ) (c : Command) → HasShort (k + 11) c → Said (complete m place c)

@@ -22,7 +22,9 @@ use Rattle.cache_command.specs.Caching.{CacheEnds, IsCached}
 use Rattle.store_commands.specs.Info.{InfoEnds}
 use Rattle.print_commands.specs.ListChunks.{ListChunksEnds}
 use Rattle.store_commands.specs.Prune.{IsPruned, PruneEnds}
-use Rattle.store_commands.specs.Serving.{ChunkServerEnds, Heard}
+use Rattle.server_commands.specs.ChunkServing.{ChunkServerEnds}
+use Rattle.server_commands.specs.IndexServing.{IndexServerEnds}
+use Rattle.server_commands.specs.Serving.{Heard}
 use Rattle.store_commands.specs.Verify.{IsVerifiedStore, VerifyEnds}
 use Rattle.command_steps.specs.Blames.{Parts, Spares, unheard}
 use Rattle.command_worlds.specs.Printing.{Printed}
@@ -36,6 +38,7 @@ use Rattle.command_worlds.specs.Worlds.{OnOut, Step, World}
 -- whether it listens for connections
 abbrev pub listens : Command → Bool
 listens (commands.ChunkServer store host port writable workers digest) = true
+listens (commands.IndexServer store host port writable) = true
 listens other = false
 
 -- how each ends, from the world before it to the world after it, where this was heard
@@ -56,6 +59,7 @@ CommandEnds sure h commands.Version = OnOut (Printed (help_text topics.Version))
 CommandEnds sure h (commands.HelpOn kind) = OnOut (Printed (help_text (topics.Command kind)))
 CommandEnds sure h (commands.ChunkServer store host port writable workers digest) =
     ChunkServerEnds digest h store writable workers
+CommandEnds sure h (commands.IndexServer store host port writable) = IndexServerEnds h store writable
 
 -- what no outcome of it changes
 abbrev pub spares : Command → Spares
@@ -73,6 +77,8 @@ spares (commands.Verify store repair workers digest) = record
     { files = true; folders = false; dial = true; out = false }
 spares (commands.Prune store indexes) = record { files = true; folders = false; dial = true; out = true }
 spares (commands.ChunkServer store host port writable workers digest) = record
+    { files = true; folders = false; dial = true; out = true }
+spares (commands.IndexServer store host port writable) = record
     { files = true; folders = false; dial = true; out = true }
 spares other = record { files = true; folders = true; dial = true; out = false }
 
@@ -100,6 +106,8 @@ parts h (commands.Verify store repair workers digest) = record
 parts h (commands.Prune store indexes) = record
     { image = []; stores = locations.Folder store ∷ []; target = []; cache = []; listener = unheard }
 parts h (commands.ChunkServer store host port writable workers digest) = record
+    { image = []; stores = []; target = []; cache = []; listener = (h.old.faults, h.new.faults) }
+parts h (commands.IndexServer store host port writable) = record
     { image = []; stores = []; target = []; cache = []; listener = (h.old.faults, h.new.faults) }
 parts h other = record { image = []; stores = []; target = []; cache = []; listener = unheard }
 

@@ -3,7 +3,7 @@
 #![tactic(auto)]
 
 mod index_file;
-mod index_service;
+pub mod index_service;
 pub mod laws;
 pub mod serve_index;
 pub mod state;
