@@ -15,6 +15,7 @@ use Rattle.desync_cli.proofs.ExactCache.{caches_so}
 use Rattle.desync_cli.proofs.ExactExtract.{extracts_so}
 use Rattle.desync_cli.proofs.ExactFolders.{prunes_so, verifies_so}
 use Rattle.desync_cli.proofs.ExactImages.{chops_so, makes_so}
+use Rattle.desync_cli.proofs.ExactRanges.{puts_so}
 use Rattle.desync_cli.proofs.ExactServing.{chunk_server_so, index_server_so}
 use Rattle.desync_cli.proofs.ExactTexts.{demonstrates_so, lists_so, prints_so, tells_so, verifies_index_so}
 use Rattle.desync_cli.proofs.Fair.{begun, if_any, if_some}
@@ -37,6 +38,7 @@ module _ (sure : Bool) (k : Heard) (x : Contents) (w v : World) where
   command_exact (commands.Cache stores cache workers indexes) f = caches_so x w v (quiet f) stores cache workers indexes f.folders f.tells
   command_exact (commands.ListChunks index) f = lists_so x w v (quiet f) index f.tells
   command_exact (commands.Extract stores seeds cache in_place workers index target) f = extracts_so x w v (quiet f) (never_fail sure k.never_fails) stores f.folders cache seeds in_place index target f.tells
+  command_exact (commands.Cat stores offset length index) f = puts_so x w v (quiet f) stores offset length index f.folders f.tells
   command_exact (commands.Info stores index) f = tells_so x w v (quiet f) stores index f.folders f.tells
   command_exact (commands.Verify store repair workers digest) f = verifies_so x w v (quiet f) digest store repair f.tells
   command_exact (commands.Prune store indexes) f = prunes_so x w v (quiet f) store indexes f.tells

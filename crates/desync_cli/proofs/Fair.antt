@@ -24,6 +24,8 @@ use Rattle.command_steps.proofs.Dialed.{dials_same}
 use Rattle.command_steps.proofs.Fair.{IsFair, IsLeft, IsRefusal, IsStep, Unread, adds, behind, between, bound, consults, cache_step, fair_longer, image_step, index_step, indexes_step, left_twice, on_disk, on_out, on_sources, printed_step, pure_step, reads, round, source_failed, source_taken_step, sources_fair, sources_step, taken_step, whole, writes, unread_fair}
 use Rattle.command_steps.proofs.Numbers.{rose_not_quiet}
 use Rattle.cache_command.specs.Caching.{EndsFilling, FillTells, IndexesFilled, NotFilled, of_command, outcome_of_fill}
+use Rattle.cat_command.specs.Cat.{RangePut, range_size}
+use Rattle.cat_command.specs.Putting.{chunk_at}
 use Rattle.image_commands.specs.Chop.{ImageChopped}
 use Rattle.desync_cli.specs.Commands.{DesyncEnds, CommandEnds, NoCommand, TellsRefusal, WordsRead, command_of, parts, refusal_in, usage_refusal, command_said, spares}
 use Rattle.print_commands.specs.Demo.{Rehearsed}
@@ -105,6 +107,24 @@ assembled_step sure o x p cache l z i is = record { fair = fair; leaves = λ w v
   fair w v (ends.Damaged k id store shows) h = (tt, tt)
   fair w v (ends.StoreFault k) h = (tt, source_failed (Lacks (chunk_of (kind_of l) h.0.0.1 (size_of l h.0.0.0))) (behind p w) (behind p v) k x.stores h.0.0.4)
   fair w v ends.TargetFault h = (tt, subst (λ q. FileRose w.disk v.disk q) is h.0.0)
+  fair w v ends.Memory h = (tt, tt)
+  fair w v other h = absurd h.0
+
+-- ---- the steps of `cat`
+
+put_step : (x : Parts) (l : Listing) (at n : ℕ) → IsStep whole (record { files = true; folders = true; dial = are_folders x.stores; out = false }) x (RangePut x.stores l at n)
+put_step x l at n = record { fair = fair; leaves = λ w v r h. record {
+  keeps = record { files = λ t. h.1.0.disk.files; folders = λ t. h.1.0.disk.folders; dial = h.1.1; out = λ t. absurd (cc) };
+  files = h.1.0.disk.counts;
+  folders = h.1.0.disk.folder_counts;
+  dial = h.1.0.dial;
+  out = h.3;
+} } where
+  fair : (w v : World) (o : Outcome) → RangePut x.stores l at n w (Err o) v → IsFair x o w v
+  fair w v (ends.Missing k id) h = (tt, tt)
+  fair w v (ends.Damaged k id store shows) h = (tt, tt)
+  fair w v (ends.StoreFault s) h = (tt, source_failed (Lacks (chunk_at (kind_of l) l h.0.0)) w v s x.stores h.0.2.said)
+  fair w v ends.OutFault h = (tt, h.0.0)
   fair w v ends.Memory h = (tt, tt)
   fair w v other h = absurd h.0
 
@@ -301,6 +321,7 @@ command_step sure h (commands.Chop store workers index image) = bound (on_disk (
 command_step sure h (commands.Cache stores cache workers indexes) = bound (on_disk (λ p. sources_step _ _ p stores)) (λ u. bound (on_disk (λ p. cache_step _ _ p stores (Some cache))) (λ u. on_sources (λ p. filled_step _ _ (parts h (commands.Cache stores cache workers indexes)) p workers indexes)))
 command_step sure h (commands.ListChunks index) = bound (on_disk (λ p. index_step _ _ p index)) (λ l. on_out (λ d. printed_step _ _ _ _ d (text_of_chunks l)))
 command_step sure h (commands.Extract stores seeds cache in_place workers index target) = bound (on_disk (λ p. index_step _ _ p index)) (λ l. bound (on_disk (λ p. indexes_step _ _ p seeds)) (λ ls. bound (on_disk (λ p. sources_step _ _ p stores)) (λ u. bound (on_disk (λ p. cache_step _ _ p stores cache)) (λ u. out_step (never_fail sure h.never_fails) _ (parts h (commands.Extract stores seeds cache in_place workers index target)) cache l (record { images = map image_name seeds; listings = ls }) in_place target refl))))
+command_step sure h (commands.Cat stores offset length index) = bound (on_disk (λ p. index_step _ _ p index)) (λ l. bound (on_disk (λ p. sources_step _ _ p stores)) (λ u. put_step (parts h (commands.Cat stores offset length index)) l offset (range_size l offset length)))
 command_step sure h (commands.Info stores index) = bound (on_disk (λ p. index_step _ _ p index)) (λ l. bound (on_sources (λ p. counted_step _ _ p (λ t. t) l)) (λ n. on_out (λ d. printed_step _ _ _ _ d (text_of_info l n))))
 command_step sure h (commands.Verify store repair workers digest) = bound (on_disk (λ p. taken_step _ _ _ _ p [] store)) (λ held. verified_step _ _ digest store repair held refl)
 command_step sure h (commands.Prune store indexes) = bound (on_disk (λ p. indexes_step _ _ p indexes)) (λ ls. bound (on_disk (λ p. taken_step _ _ _ _ p [] store)) (λ held. on_disk (λ p. pruned_step _ _ _ _ p (is_listed_in ls) store held refl)))

@@ -25,6 +25,7 @@ use Rattle.print_commands.specs.Demo.{Rehearsed}
 use Rattle.extract_command.specs.Extract.{Clearing, ImageMade, Into, NeverFail, NotRenamed, OutMade, Renamed, Seeds, beside, in_place, temporary_out}
 use Rattle.image_commands.specs.Make.{ImageStored, IndexWritten, NotWritten, SizesJudged}
 use Rattle.store_commands.specs.VerifyIndex.{ImageChecked}
+use Rattle.cat_command.specs.Cat.{RangePut}
 use Rattle.cache_command.specs.Caching.{IndexesFilled, NotFilled, Evidence, outcome_of_fill}
 use Rattle.store_commands.specs.Info.{IdsCounted, NotAsked}
 use Rattle.store_commands.specs.Prune.{StorePruned}
@@ -213,6 +214,17 @@ module _ (n : ℕ) where
   pruned_tells keeps q held d e (ends.StoreFault k) h = omega arith
   pruned_tells keeps q held d e ends.Memory h = omega arith
   pruned_tells keeps q held d e other h = absurd h.0
+
+  range_tells : (stores : List Location) (l : Listing) (at m : ℕ) → Tells n (RangePut stores l at m)
+  range_tells stores l at m w v (ends.Missing k id) h = omega arith
+  range_tells stores l at m w v (ends.Damaged k id s shows) h = omega arith
+  range_tells stores l at m w v (ends.StoreFault s) h = omega arith
+  range_tells stores l at m w v ends.OutFault h = omega arith
+  range_tells stores l at m w v ends.Memory h = omega arith
+  range_tells stores l at m w v other h = absurd h.0
+
+  pub range_put : (stores : List Location) (l : Listing) (at m : ℕ) → Shorts n (RangePut stores l at m)
+  range_put stores l at m = record { short = range_tells stores l at m }
 
   pub pruned : (keeps : List ℕ → Bool) (q : List ℕ) (held : Option (Map (List ℕ))) → Shorts n (StorePruned keeps q held)
   pruned keeps q held = record { short = pruned_tells keeps q held }

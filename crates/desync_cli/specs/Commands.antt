@@ -19,6 +19,7 @@ use Rattle.extract_command.specs.Extract.{ExtractEnds, IsExtracted, never_fail, 
 use Rattle.image_commands.specs.Make.{IsMade, MakeEnds, StoreHas}
 use Rattle.store_commands.specs.VerifyIndex.{IsVerified, VerifyIndexEnds}
 use Rattle.cache_command.specs.Caching.{CacheEnds, IsCached}
+use Rattle.cat_command.specs.Cat.{CatEnds}
 use Rattle.store_commands.specs.Info.{InfoEnds}
 use Rattle.print_commands.specs.ListChunks.{ListChunksEnds}
 use Rattle.store_commands.specs.Prune.{IsPruned, PruneEnds}
@@ -50,6 +51,7 @@ CommandEnds sure h (commands.Cache stores cache workers indexes) = CacheEnds sto
 CommandEnds sure h (commands.ListChunks index) = ListChunksEnds index
 CommandEnds sure h (commands.Extract stores seeds cache in_place workers index target) =
     ExtractEnds (never_fail sure h.never_fails) stores cache seeds in_place index target
+CommandEnds sure h (commands.Cat stores offset length index) = CatEnds stores offset length index
 CommandEnds sure h (commands.Info stores index) = InfoEnds stores index
 CommandEnds sure h (commands.Verify store repair workers digest) = VerifyEnds digest store repair
 CommandEnds sure h (commands.Prune store indexes) = PruneEnds store indexes
@@ -72,6 +74,8 @@ spares (commands.Cache stores cache workers indexes) = record
     { files = true; folders = false; dial = are_folders stores; out = true }
 spares (commands.Extract stores seeds cache in_place workers index target) = record
     { files = false; folders = not (is_some cache); dial = are_folders stores; out = true }
+spares (commands.Cat stores offset length index) = record
+    { files = true; folders = true; dial = are_folders stores; out = false }
 spares (commands.Info stores index) = record { files = true; folders = true; dial = are_folders stores; out = false }
 spares (commands.Verify store repair workers digest) = record
     { files = true; folders = false; dial = true; out = false }
@@ -99,6 +103,8 @@ parts h (commands.Extract stores seeds cache in_place workers index target) = re
   cache = [];
   listener = unheard;
 }
+parts h (commands.Cat stores offset length index) = record
+    { image = []; stores = stores; target = []; cache = []; listener = unheard }
 parts h (commands.Info stores index) = record
     { image = []; stores = stores; target = []; cache = []; listener = unheard }
 parts h (commands.Verify store repair workers digest) = record

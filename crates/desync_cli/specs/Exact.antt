@@ -30,6 +30,7 @@ use Rattle.command_worlds.specs.Steps.{answer_of}
 use Rattle.command_worlds.specs.Worlds.{DiskQuiet, World}
 use Rattle.desync_cli.specs.AtHand.{into}
 use Rattle.desync_cli.specs.Contents.{Contents, Ending, HasContents, PrintsText, Unchanged, with_file, with_folder}
+use Rattle.desync_cli.specs.Contents.{with_text}
 use Rattle.desync_cli.specs.Contents.{◌>>=◌, folder_at, folders_at, image_at, index_at, indexes_at}
 use Rattle.dir_store.specs.Names.{is_stranger}
 use Rattle.dsy_base.specs.Counts.{Quiet}
@@ -44,6 +45,8 @@ use Rattle.image_commands.specs.Make.{cut_sizes_of}
 use Rattle.image_demo.specs.Figures.{AreFigures, HasTwoPieces, text_of_figures}
 use Rattle.image_demo.specs.Images.{usual_sizes}
 use Rattle.image_demo.specs.declared.figures.Figures.{Figures}
+use Rattle.image_reader.specs.Covered.{IsCovered}
+use Rattle.image_reader.specs.Images.{IsRange, SomeGivesEntry, image_of_stores}
 use Rattle.image_store.specs.PutChunks.{HoldsAll, PutsFiles, Stands}
 use Rattle.index_server.specs.Talks.{index_protocol}
 use Rattle.locked_shelf.specs.Keepings.{KeepsOpening}
@@ -52,6 +55,8 @@ use Rattle.store_chain.specs.Giving.{LacksAll}
 use Rattle.store_chain.specs.declared.refused.Refused.{Refused}
 use Rattle.store_chain.specs.declared.refused.Refused.TheVariants as refused
 use Rattle.cache_command.specs.Caching.{IsCached}
+use Rattle.cat_command.specs.Cat.{range_size}
+use Rattle.cat_command.specs.Putting.{bytes_before}
 use Rattle.server_commands.specs.Serving.{Heard}
 use Rattle.store_commands.specs.Verify.{answer_of_left}
 use Rattle.verify_tool.specs.Counts.{held_count}
@@ -251,6 +256,24 @@ Verifies kind q repair f x o y = (damaged : List (List ℕ)) × AreDamaged kind 
       printed = x.printed ++ text_of_damaged repair damaged;
     })
 
+-- how many bytes of the range are put with this outcome: all, or those before the entry that is named
+abbrev pub bytes_put : Listing → ℕ → ℕ → Outcome → ℕ
+bytes_put l at n (ends.Missing k id) = bytes_before l at k
+bytes_put l at n (ends.Damaged k id s shows) = bytes_before l at k
+bytes_put l at n other = n
+
+-- a store gives the chunk of entry i, if the range covers it
+abbrev pub IsGivenIn : Listing → ℕ → ℕ → List (Map (List ℕ)) → ℕ → Type 0
+IsGivenIn l at n stores i = IsCovered l at n i → SomeGivesEntry l i stores
+
+-- the range of the image of the stores is printed; or the first entry that it covers and that no store gives is named,
+-- and the bytes before it are printed. They are others only where two unequal pieces have one name
+abbrev pub PrintsRange : Listing → ℕ → ℕ → List (Map (List ℕ)) → Ending
+PrintsRange l at n stores x o y =
+    (((o ≡ ends.Done) × ((i : ℕ) → IsGivenIn l at n stores i)) ⊎ NamesLacking l (IsGivenIn l at n stores) stores o)
+    × (text : List ℕ) × (length text ≡ bytes_put l at n o)
+    × IsRange l at (bytes_put l at n o) (image_of_stores l stores) text × (y ≡ with_text x text)
+
 -- how many of the listed ids stores hold, if there are stores
 abbrev pub in_stores : Listing → List (Map (List ℕ)) → Option ℕ
 in_stores l [] = None
@@ -291,6 +314,10 @@ EndingOf h (commands.Extract stores seeds cache in_place workers index target) =
 EndingOf h (commands.ListChunks index) = do
   l ← index_at index
   PrintsText (text_of_chunks l)
+EndingOf h (commands.Cat stores offset length index) = do
+  l ← index_at index
+  fs ← folders_at stores
+  PrintsRange l offset (range_size l offset length) (map chunks fs)
 EndingOf h (commands.Info stores index) = do
   l ← index_at index
   fs ← folders_at stores

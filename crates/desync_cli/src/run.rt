@@ -22,6 +22,7 @@ ghost use Rattle.command_worlds.specs.Worlds.{DiskQuiet, NoFault, world};
 use crate::telling::{longest, take_line, tell, tell_no_room};
 use crate::words::read_command;
 use cache_command::cache::{CacheWords, fill_cache};
+use cat_command::cat::{CatWords, cat};
 use command_help::help::Topic;
 use command_outcome::outcome::{Ended, Outcome};
 use command_words::command::Command;
@@ -83,6 +84,23 @@ where
             let workers = workers as usize;
             extract(rt, alloc, files, dial, Extraction { stores, cache, seeds, in_place, workers, index, target })
         }
+        Command::Cat {
+            stores,
+            offset,
+            length,
+            index,
+        } => cat(
+            alloc,
+            files,
+            dial,
+            out,
+            CatWords {
+                stores,
+                offset,
+                length,
+                index,
+            },
+        ),
         Command::Info { stores, index } => print_info(alloc, files, dial, out, stores, index),
         Command::Help => help(out, Topic::All),
         Command::Version => help(out, Topic::Version),
