@@ -7,3 +7,6 @@ pub mod Sending
 pub mod Called
 pub mod OneThing
 pub mod Asked
+pub mod OneReply
+pub mod Rooms
+pub mod Fetched

@@ -127,11 +127,14 @@ pub(crate) fn reply_to_get<K: Link>(
         Ok(reply) => reply,
         Err(refused) => return Err(refused),
     };
-    match reply.head.status {
-        200 => Ok(Some(reply)),
-        404 => Ok(None),
-        status => Err(Unanswered::Bad(BadReply::Status(status))),
+    let status = reply.head.status;
+    if status == 404 {
+        return Ok(None);
     }
+    if status != 200 {
+        return Err(Unanswered::Bad(BadReply::Status(status)));
+    }
+    Ok(Some(reply))
 }
 
 // The answer to a GET.
