@@ -11,7 +11,8 @@ use link_forms::mem_link::MemLink;
 use std::alloc::Global;
 use std::process::Abort;
 
-const ASK: &[u8] = b"GET /a.caibx HTTP/1.1\r\nHost: localhost:8081\r\nAccept-Encoding: identity\r\nConnection: close\r\n\r\n";
+const ASK: &[u8] =
+    b"GET /a.caibx HTTP/1.1\r\nHost: localhost:8081\r\nAccept-Encoding: identity\r\nConnection: close\r\n\r\n";
 
 const OK_144: &[u8] = b"HTTP/1.1 200 OK\r\nContent-Length: 144\r\n\r\n";
 

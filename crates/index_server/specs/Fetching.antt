@@ -42,6 +42,21 @@ RepliesOfIndex t (Err (fault.Wire f)) = RefusesGet file_limit t (unfetched.Wire 
 RepliesOfIndex t (Err fault.Failed) = ⊥
 RepliesOfIndex t (Err fault.Memory) = ⊥
 
+-- what the bytes of a body are read as
+abbrev pub ReadsFetched : List ℕ → Result Listing FetchFault → Type 0
+ReadsFetched b (Ok l) = IsIndexFile b l
+ReadsFetched b (Err (fault.Bad f)) = ((l : Listing) → IsIndexFile b l → ⊥) × (index_in b ≡ Err f)
+ReadsFetched b (Err fault.Memory) = Unit {0}
+ReadsFetched b (Err _) = ⊥
+
+-- why there is no index where there is no body
+abbrev pub fetch_fault : Unfetched → FetchFault
+fetch_fault unfetched.Absent = fault.Absent
+fetch_fault (unfetched.Status status) = fault.Status status
+fetch_fault (unfetched.Wire f) = fault.Wire f
+fetch_fault unfetched.Failed = fault.Failed
+fetch_fault unfetched.Memory = fault.Memory
+
 -- ---- the dialer
 
 -- P, where it was the reply that gave the answer
