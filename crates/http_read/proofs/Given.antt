@@ -7,10 +7,7 @@ use Rattle.http_read.specs.Answers.{AnswersGet, got_of}
 use Rattle.http_read.specs.Reads.{CountsReply, CountsRead, IfBad, IfWire, IsBody, IsFault}
 use Rattle.http_read.specs.Refusals.{IsRefused, IsUnwanted}
 use Rattle.http_read.specs.Replies.{SaysHead, SaysLonger, SaysStatus}
-use Rattle.http_read.specs.declared.fault.BadReply.{BadReply}
 use Rattle.http_read.specs.declared.fault.BadReply.TheVariants as bad
-use Rattle.http_read.specs.declared.fault.Unanswered.{Unanswered}
-use Rattle.http_read.specs.declared.fault.Unanswered.TheVariants as unanswered
 use Rattle.http_read.specs.declared.fault.Unread.{Unread}
 use Rattle.http_read.specs.declared.fault.Unread.TheVariants as unread
 use Rattle.http_frames.specs.declared.fault.WireFault.{WireFault}

@@ -6,9 +6,8 @@ use Rattle.std.proofs.lemmas.Grind.{common_steps}
 use Rattle.std.proofs.lemmas.List.{length-append, take-append-le}
 use Rattle.dsy_base.specs.Links.{Traffic}
 use Rattle.http_read.proofs.Streams.{weaker}
-use Rattle.http_read.specs.Fetching.{IsRefusedByHead}
 use Rattle.http_read.specs.Reads.{CountsReply, CountsRead, IfBad, IfWire, Receives, unanswered_of}
-use Rattle.http_read.specs.Refusals.{HasNoHead, IsRefused}
+use Rattle.http_read.specs.Refusals.{HasNoHead, IsRefused, IsRefusedByHead}
 use Rattle.http_read.specs.Replies.{SaysHead}
 use Rattle.http_read.specs.declared.fault.BadReply.{BadReply}
 use Rattle.http_read.specs.declared.fault.BadReply.TheVariants as bad

@@ -7,6 +7,3 @@ pub mod Sending
 pub mod Called
 pub mod OneThing
 pub mod Asked
-pub mod OneReply
-pub mod Rooms
-pub mod Fetched

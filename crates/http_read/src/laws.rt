@@ -1,10 +1,7 @@
 //! Laws of replies, for the crates above. Nothing is done: each function's contract is the law.
 
 ghost use Rattle.std.specs.Prelude.{◌≡◌, ℕ, List, Result};
-ghost use Rattle.dsy_base.specs.Links.{Traffic};
-ghost use Rattle.http_read.specs.Fetching.{RepliesToGet};
 ghost use Rattle.http_read.specs.Replies.{SaysHead};
-ghost use Rattle.http_read.specs.declared.fetch.Unfetched.{Unfetched};
 ghost use Rattle.http_frames.specs.declared.fault.WireFault.{WireFault};
 ghost use Rattle.http_wire.specs.declared.reply.Method.{Method};
 ghost use Rattle.http_wire.specs.declared.reply.ReplyHead.{ReplyHead};
@@ -14,11 +11,4 @@ ghost use Rattle.http_wire.specs.declared.reply.ReplyHead.{ReplyHead};
 pub fn head_says_one_thing()
     ensures same { (m : Method) (b : List ℕ) (n k : ℕ) (r s : Result ReplyHead WireFault) → SaysHead m b n r
         → SaysHead m b k s → (n ≡ k) × (r ≡ s) }
-{}
-
-/// What the reply to a GET says is one thing too, where its body may have so many bytes: a connection that ended licenses
-/// one answer.
-pub fn reply_says_one_thing()
-    ensures same { (most : ℕ) (t : Traffic) (r s : Result (List ℕ) Unfetched) → RepliesToGet most t r
-        → RepliesToGet most t s → r ≡ s }
 {}

@@ -7,9 +7,9 @@ use Rattle.caibx_codec.specs.Spelling.{IsIndexFile}
 use Rattle.caibx_fields.specs.Limits.{file_limit}
 use Rattle.caibx_fields.specs.declared.fault.IndexFault.{IndexFault}
 use Rattle.dsy_base.specs.Links.{Traffic}
-use Rattle.http_read.specs.Fetching.{RepliesToGet}
-use Rattle.http_read.specs.declared.fetch.Unfetched.{Unfetched}
-use Rattle.http_read.specs.declared.fetch.Unfetched.TheVariants as unfetched
+use Rattle.http_fetch.specs.Fetching.{RepliesToGet}
+use Rattle.http_fetch.specs.declared.fetch.Unfetched.{Unfetched}
+use Rattle.http_fetch.specs.declared.fetch.Unfetched.TheVariants as unfetched
 use Rattle.index_server.specs.Fetching.{ReadsFetched, RepliesOfIndex, fetch_fault}
 use Rattle.index_server.specs.declared.fetch_index.FetchFault.{FetchFault}
 use Rattle.index_server.specs.declared.fetch_index.FetchFault.TheVariants as fault

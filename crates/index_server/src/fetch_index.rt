@@ -9,8 +9,8 @@ use caibx_codec::reading::ReadFault;
 use caibx_fields::fault::IndexFault;
 use caibx_fields::format::FILE_LIMIT;
 use dsy_base::dial::Dial;
+use http_fetch::fetch::{Unfetched, fetch};
 use http_frames::fault::WireFault;
-use http_read::fetch::{Unfetched, fetch};
 use std::alloc::Global;
 
 /// Why no index was fetched.

@@ -1,5 +1,4 @@
-//! Laws of connections to and as a server of indexes, for the crates above. Nothing is done: each function's contract is
-//! the law.
+//! Laws of connections to servers of indexes, for the crates above. Nothing is done: each contract is the law.
 
 ghost use Rattle.std.specs.Prelude.{◌≡◌, ℕ, ◌++◌, Bool, List, Result, Some, true};
 ghost use Rattle.caibx_codec.specs.Listing.{Listing};
@@ -13,7 +12,7 @@ ghost use Rattle.index_server.specs.Talks.{IndexTalk, index_protocol};
 ghost use Rattle.index_server.specs.declared.fetch_index.FetchFault.{FetchFault};
 
 use caibx_codec::laws::one_index;
-use http_read::laws::reply_says_one_thing;
+use http_fetch::laws::reply_says_one_thing;
 
 /// Where the folder counts no fault, a connection that is served to its end is sent exactly the replies that the files
 /// give, and the files are those that its requests leave.

@@ -13,7 +13,7 @@ use Rattle.http_wire.specs.declared.reply.Method.TheVariants as method
 use Rattle.http_read.proofs.exchange.chunk_in.Goals as goal
 
 pub returns-in-Err-clause-bad : goal.returns-in-Err-clause-bad
-returns-in-Err-clause-bad g c = refused_by_head (Option Reply) Got method.Get _ _ c.in-Err.refused c.in-Err.ensures.bad
+returns-in-Err-clause-bad g c = refused_by_head (Option Reply) Got method.Get _ _ c.in-Err.refused c.in-Err.ensures.err
 
 pub returns-clause-ok : goal.returns-clause-ok
 returns-clause-ok g c =

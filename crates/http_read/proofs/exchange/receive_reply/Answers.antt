@@ -1,7 +1,7 @@
 use Rattle.std.proofs.Common.{sym, subst, ◌∙◌, Ok, Err}
 use Rattle.http_read.proofs.Heads.{counts_early, refused_early, refused_head, says_head}
-use Rattle.http_read.specs.Fetching.{IsRefusedByHead}
 use Rattle.http_read.specs.Reads.{CountsReply, IfBad}
+use Rattle.http_read.specs.Refusals.{IsRefusedByHead}
 use Rattle.http_read.specs.declared.exchange.Reply.{Reply}
 use Rattle.http_read.specs.declared.fault.Unanswered.{Unanswered}
 use Rattle.std.specs.Prelude.{IfSome}

@@ -1,23 +1,27 @@
 -- The reply to a GET says one thing.
-use Rattle.std.proofs.Common.{◌≡◌, ℕ, ◌==◌, ◌<◌, ◌≤◌, Bool, true, false, cond, List, [], length, drop, Ok, Err, refl, sym, ◌∙◌, ap, subst, ◌⊎◌, inl, inr, arith}
+use Rattle.std.proofs.Common.{◌≡◌, ℕ, ◌==◌, ◌<◌, ◌≤◌, Bool, true, false, cond, List, [], length, drop, Ok, Err, refl, sym, ◌∙◌, ap, ◌⊎◌, inl, inr, arith}
 use Rattle.std.specs.Prelude.{Result}
 use Rattle.std.proofs.lemmas.Bool.Decides.{nat_tests}
 use Rattle.dsy_base.specs.Links.{Traffic}
 use Rattle.http_frames.specs.Body.{body_in}
-use Rattle.http_frames.specs.HeadEnd.{ends_at, head_limit}
+use Rattle.http_frames.specs.HeadEnd.{head_limit}
 use Rattle.http_frames.specs.declared.body.BodyKind.{BodyKind}
 use Rattle.http_frames.specs.declared.fault.WireFault.{WireFault}
 use Rattle.http_frames.specs.declared.fault.WireFault.TheVariants as faults
-use Rattle.http_read.proofs.OneThing.{one_thing}
-use Rattle.http_read.proofs.Rooms.{fits_room, told_fits}
-use Rattle.http_read.specs.Fetching.{GivesBody, HasNoBody, RefusesGet, RepliesToGet, tells_more}
+use Rattle.http_fetch.proofs.Rooms.{fits_room, told_fits}
+use Rattle.http_fetch.specs.Fetching.{GivesBody, HasNoBody, RepliesToGet, tells_more}
 use Rattle.http_read.specs.Reads.{IsFault}
-use Rattle.http_read.specs.Refusals.{HasBadHead, HasNoHead, IsUnwanted}
+use Rattle.http_read.specs.Refusals.{HasNoHead, IsUnwanted}
 use Rattle.http_read.specs.Replies.{SaysHead}
-use Rattle.http_read.specs.declared.fetch.Unfetched.{Unfetched}
-use Rattle.http_read.specs.declared.fetch.Unfetched.TheVariants as unfetched
+use Rattle.http_fetch.specs.declared.fetch.Unfetched.{Unfetched}
+use Rattle.http_fetch.specs.declared.fetch.Unfetched.TheVariants as unfetched
+use Rattle.http_wire.specs.declared.reply.Method.{Method}
 use Rattle.http_wire.specs.declared.reply.Method.TheVariants as method
 use Rattle.http_wire.specs.declared.reply.ReplyHead.{ReplyHead}
+
+-- a head says one thing
+abbrev pub OneHead : Type 0
+OneHead = (m : Method) (b : List ℕ) (n k : ℕ) (r s : Result ReplyHead WireFault) → SaysHead m b n r → SaysHead m b k s → (n ≡ k) × (r ≡ s)
 
 -- ---- what a reply says, by its head and the bytes behind it
 
@@ -107,12 +111,12 @@ no_head_ends most t r s none some =
     let clash : true ≡ false = sym some.head.ends.ends ∙ none.none.none some.size some.head.ends.inside some.head.near in
     absurd (cc (clash))
 
-pub one_reply : (most : ℕ) (t : Traffic) (r s : Result (List ℕ) Unfetched) → RepliesToGet most t r → RepliesToGet most t s → r ≡ s
-one_reply most t r s a b = go (verdict most t r a) (verdict most t s b) where
+pub one_reply : OneHead → (most : ℕ) (t : Traffic) (r s : Result (List ℕ) Unfetched) → RepliesToGet most t r → RepliesToGet most t s → r ≡ s
+one_reply one most t r s a b = go (verdict most t r a) (verdict most t s b) where
   go : Headless t r ⊎ Headed most t r → Headless t s ⊎ Headed most t s → r ≡ s
   go (inl x) (inl y) = x.is ∙ ap (λ f. Err (unfetched.Wire f)) (one_fault t x.fault y.fault x.none y.none) ∙ sym y.is
   go (inl x) (inr y) = no_head_ends most t r s x y
   go (inr x) (inl y) = sym (no_head_ends most t s r y x)
   go (inr x) (inr y) =
-      let same = one_thing method.Get t.received x.size y.size x.says y.says x.head y.head in
+      let same = one method.Get t.received x.size y.size x.says y.says x.head y.head in
       x.is ∙ ap (λ n. said most x.says (drop n t.received)) same.0 ∙ ap (λ h. said most h (drop y.size t.received)) same.1 ∙ sym y.is

@@ -1,27 +1,16 @@
 -- What is fetched, by the reply that was received.
-use Rattle.std.proofs.Common.{◌≡◌, ◌≢◌, ℕ, ◌+◌, ◌<◌, ◌≤◌, Bool, true, false, List, [], length, take, drop, None, Some, Ok, Err, refl, sym, ◌∙◌, ap, subst, ◌⊎◌, inl, inr, arith}
-use Rattle.std.specs.Prelude.{Option, Result, IfErr, IfOk, IfSome}
+use Rattle.std.proofs.Common.{◌≡◌, ℕ, ◌≤◌, false, List, length, take, drop, Err, sym, ◌∙◌, subst, ◌⊎◌, inl, inr, arith}
+use Rattle.std.specs.Prelude.{Option, IfSome}
 use Rattle.std.proofs.lemmas.List.{length-take-le}
-use Rattle.dsy_base.specs.Counts.{Rose, raised}
 use Rattle.dsy_base.specs.Links.{Traffic}
-use Rattle.http_frames.specs.declared.body.BodyKind.{BodyKind}
 use Rattle.http_frames.specs.declared.fault.WireFault.{WireFault}
-use Rattle.http_frames.specs.declared.fault.WireFault.TheVariants as faults
-use Rattle.http_read.proofs.Given.{Says, Says200, both_are, has_status, is_200}
-use Rattle.http_read.proofs.Rooms.{in_alike, read_alike}
-use Rattle.http_read.proofs.Streams.{weaker}
-use Rattle.http_read.specs.Fetching.{CountsFetch, GivesBody, HasNoBody, IsRefusedByHead, OnRefusal, RefusesGet, room_of_body, tells_more, unfetched_of}
-use Rattle.http_read.specs.Reads.{CountsRead, CountsReply, IfBad, IfWire, IsBody, IsFault, unanswered_of}
-use Rattle.http_read.specs.Replies.{SaysBody, SaysStatus}
-use Rattle.http_read.specs.declared.fault.BadReply.{BadReply}
-use Rattle.http_read.specs.declared.fault.BadReply.TheVariants as bad
-use Rattle.http_read.specs.declared.fault.Unanswered.{Unanswered}
-use Rattle.http_read.specs.declared.fault.Unanswered.TheVariants as unanswered
+use Rattle.http_read.proofs.Given.{Says, both_are, is_200}
+use Rattle.http_fetch.proofs.Rooms.{in_alike, read_alike}
+use Rattle.http_fetch.specs.Fetching.{GivesBody, OnRefusal, RefusesGet, room_of_body, tells_more, unfetched_of}
+use Rattle.http_read.specs.Reads.{IfWire, IsBody, IsFault, unanswered_of}
 use Rattle.http_read.specs.declared.fault.Unread.{Unread}
 use Rattle.http_read.specs.declared.fault.Unread.TheVariants as unread
-use Rattle.http_read.specs.declared.fetch.Unfetched.{Unfetched}
-use Rattle.http_read.specs.declared.fetch.Unfetched.TheVariants as unfetched
-use Rattle.http_wire.specs.declared.reply.Method.{Method}
+use Rattle.http_fetch.specs.declared.fetch.Unfetched.TheVariants as unfetched
 use Rattle.http_wire.specs.declared.reply.Method.TheVariants as method
 use Rattle.http_wire.specs.declared.reply.ReplyHead.{ReplyHead}
 

@@ -1,14 +1,14 @@
-use Rattle.std.proofs.Common.{◌≡◌, ◌≤◌, ℕ, List, length, take, Ok, ap, sym, subst, ◌∙◌, arith}
+use Rattle.std.proofs.Common.{◌≤◌, ℕ, List, length, take, Ok, ap, sym, subst, ◌∙◌, arith}
 use Rattle.std.proofs.lemmas.List.{with_items_is}
 use Rattle.std.specs.Prelude.{IfSome}
-use Rattle.http_read.proofs.Fetched.{gives_body, unread_refuses}
+use Rattle.http_fetch.proofs.Fetched.{gives_body, unread_refuses}
 use Rattle.http_read.proofs.Given.{has_status}
 use Rattle.http_read.proofs.Heads.{says_on}
 use Rattle.http_read.proofs.Streams.{receives_nothing}
-use Rattle.http_read.specs.Fetching.{GivesBody, OnRefusal, RefusesGet, unfetched_of}
-use Rattle.http_read.specs.declared.fetch.Unfetched.{Unfetched}
+use Rattle.http_fetch.specs.Fetching.{GivesBody, OnRefusal, RefusesGet, unfetched_of}
+use Rattle.http_fetch.specs.declared.fetch.Unfetched.{Unfetched}
 use Rattle.http_wire.specs.declared.reply.Method.TheVariants as method
-use Rattle.http_read.proofs.fetch.body_behind.Goals as goal
+use Rattle.http_fetch.proofs.fetch.body_behind.Goals as goal
 
 pub returns-in_default-clause-kept : goal.returns-in_default-clause-kept
 returns-in_default-clause-kept g c = receives_nothing _

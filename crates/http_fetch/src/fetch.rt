@@ -1,25 +1,26 @@
 //! One GET, and the body of its reply. Sizes are in bytes.
 
-ghost use Rattle.std.specs.Prelude.{◌≡◌, ◌≢◌, ◌≤◌, ◌<◌, ◌⊎◌, [], length, take, false, true, Err, IfErr, IfOk, IfSome, None, Ok};
+ghost use Rattle.std.specs.Prelude.{◌≡◌, ◌≤◌, ◌<◌, ◌⊎◌, [], length, take, false, true, Err, IfErr, IfOk, IfSome};
+ghost use Rattle.std.specs.Prelude.{None, Ok};
 ghost use Rattle.dsy_base.specs.Links.{IsFreshLink};
 ghost use Rattle.http_frames.specs.HeadEnd.{head_limit};
 ghost use Rattle.http_read.specs.Asks.{IsFront};
-ghost use Rattle.http_read.specs.Fetching.{CountsFetch, GivesBody, OnRefusal, RefusesGet, room_of_body, tells_more};
-ghost use Rattle.http_read.specs.Fetching.{unfetched_of};
+ghost use Rattle.http_fetch.specs.Fetching.{CountsFetch, GivesBody, OnRefusal, RefusesGet, room_of_body, tells_more};
+ghost use Rattle.http_fetch.specs.Fetching.{unfetched_of};
 ghost use Rattle.http_read.specs.Reads.{Receives};
 ghost use Rattle.http_read.specs.Remotes.{AddsOne};
 ghost use Rattle.http_read.specs.Replies.{SaysHead, SaysStatus};
 ghost use Rattle.http_wire.specs.Ask.{ask};
 
-use crate::body::read_body;
-use crate::exchange::{Reply, reply_to_get, send, unanswered};
-use crate::fault::{BadReply, Unanswered};
 use dsy_base::dial::Dial;
 use dsy_base::fault::IoFault;
 use dsy_base::link::Link;
 use http_frames::body::BodyKind;
 use http_frames::fault::WireFault;
 use http_frames::head::HEAD_LIMIT;
+use http_read::body::read_body;
+use http_read::exchange::{Reply, reply_to_get, send, unanswered};
+use http_read::fault::{BadReply, Unanswered};
 use http_wire::ask::ask_text;
 use http_wire::reply::Method;
 use std::alloc::Global;

@@ -1,8 +1,8 @@
 -- A body is read alike with any room that it fits.
-use Rattle.std.proofs.Common.{◌≡◌, ℕ, ◌+◌, ◌-◌, ◌<◌, ◌≤◌, ◌==◌, Bool, true, false, nat_lt, nat_le, if◌then◌else◌, List, [], ◌∷◌, ◌++◌, length, drop, Option, Some, None, Result, Ok, Err, refl, sym, ap, ◌∙◌, subst, ◌⊎◌, inl, inr, arith}
+use Rattle.std.proofs.Common.{◌≡◌, ℕ, ◌+◌, ◌-◌, ◌<◌, ◌≤◌, ◌==◌, Bool, true, false, nat_lt, nat_le, if◌then◌else◌, List, [], ◌∷◌, ◌++◌, length, Option, Some, None, Result, Ok, Err, refl, sym, ap, ◌∙◌, subst, arith}
 use Rattle.std.proofs.lemmas.Bool.Decides.{nat_tests}
 use Rattle.std.proofs.lemmas.List.{length-append}
-use Rattle.http_frames.specs.Body.{Reading, appended, counted, expected, in_line, push_to_body, push_at, reads_body, sized, body_in, body_start, trailed, first_next, missing_bytes, may_end, ◌>>=◌}
+use Rattle.http_frames.specs.Body.{Reading, appended, counted, expected, in_line, push_to_body, push_at, reads_body, sized, body_in, body_start, trailed, first_next, may_end, ◌>>=◌}
 use Rattle.http_frames.specs.SizeLine.{size_in}
 use Rattle.http_frames.specs.declared.body.BodyKind.{BodyKind}
 use Rattle.http_frames.specs.declared.body.BodyKind.TheVariants as kind
@@ -10,7 +10,7 @@ use Rattle.http_frames.specs.declared.fault.WireFault.{WireFault}
 use Rattle.http_frames.specs.declared.fault.WireFault.TheVariants as faults
 use Rattle.http_frames.specs.declared.progress.Next.{Next}
 use Rattle.http_frames.specs.declared.progress.Next.TheVariants as next
-use Rattle.http_read.specs.Fetching.{room_of_body, tells_more}
+use Rattle.http_fetch.specs.Fetching.{room_of_body, tells_more}
 
 -- the bytes that are missing of the length or of the open chunk
 abbrev awaited : Next → ℕ → ℕ
