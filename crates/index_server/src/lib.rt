@@ -1,7 +1,8 @@
-//! Indexes of a folder over HTTP/1.1 (RFC 9112), for the side that answers: requests are answered one by one, and a
-//! connection is served to its end. Everything is counted in bytes.
+//! Indexes over HTTP/1.1 (RFC 9112). A server answers requests for those of a folder one by one, and serves a
+//! connection to its end. A client fetches one by one GET. Everything is counted in bytes.
 #![tactic(auto)]
 
+pub mod fetch_index;
 mod index_file;
 pub mod index_service;
 pub mod laws;
