@@ -5,3 +5,4 @@ pub mod Reads
 pub mod Answers
 pub mod Remotes
 pub mod Calls
+pub mod Fetching

@@ -1,14 +1,16 @@
 //! One ask and its answer, on a connection that is new.
 
-ghost use Rattle.std.specs.Prelude.{◌≡◌, ◌<◌, ◌≤◌, ◌⊎◌, ℕ, [], ◌++◌, length, take, IfOk, IfSome, Ok, OnOk, true, false};
+ghost use Rattle.std.specs.Prelude.{◌≡◌, ◌≢◌, ◌<◌, ◌≤◌, ◌⊎◌, [], ◌++◌, length, take, Err, IfOk, IfSome, None, Ok, OnOk};
+ghost use Rattle.std.specs.Prelude.{true, false};
 ghost use Rattle.std.specs.Option.{option_map};
 ghost use Rattle.dsy_base.specs.Links.{IsFreshLink, sends};
 ghost use Rattle.http_frames.specs.HeadEnd.{head_limit};
 ghost use Rattle.http_read.specs.Asks.{IsFront};
 ghost use Rattle.http_read.specs.Answers.{AnswersGet, AnswersHead, AnswersPut, got_of};
+ghost use Rattle.http_read.specs.Fetching.{IsRefusedByHead};
 ghost use Rattle.http_read.specs.Reads.{CountsReply, IfBad, Receives, SendsFront, unanswered_of};
 ghost use Rattle.http_read.specs.Refusals.{IsBadReply, IsRefused};
-ghost use Rattle.http_read.specs.Replies.{SaysHead};
+ghost use Rattle.http_read.specs.Replies.{SaysHead, SaysStatus};
 
 use crate::body::read_body;
 use crate::fault::{BadReply, Unanswered, Unread};
@@ -28,15 +30,15 @@ pub(crate) enum Got {
     Longer,
 }
 
-// The head of a reply, and what was received with it.
+/// The head of a reply, and what was received with it.
 #[derive(Clone, Copy, Debug, PartialEq, Eq)]
-struct Reply {
-    head: ReplyHead,
-    received: Received,
+pub(crate) struct Reply {
+    pub(crate) head: ReplyHead,
+    pub(crate) received: Received,
 }
 
-// Why there is no answer where something isn't read.
-fn unanswered(unread: Unread) -> Unanswered
+/// Why there is no answer where something isn't read.
+pub(crate) fn unanswered(unread: Unread) -> Unanswered
     ensures { result ≡ unanswered_of unread }
 {
     match unread {
@@ -56,10 +58,11 @@ fn chunk_of(read: Result<usize, Unread>) -> Result<Got, Unanswered>
     }
 }
 
-// Sends these bytes.
-fn send<K: Link>(link: &mut K, b: &[u8]) -> Result<(), Unanswered>
+/// Sends these bytes.
+pub(crate) fn send<K: Link>(link: &mut K, b: &[u8]) -> Result<(), Unanswered>
     ensures ok { OnOk result ((K.state link.new).traffic ≡ option_map (sends b.now) (K.state link.old).traffic) }
     ensures front { SendsFront b.now (K.state link.old).traffic (K.state link.new).traffic }
+    ensures kept { result ≡ Err Unanswered.Memory → (K.state link.new).traffic ≡ (K.state link.old).traffic }
     ensures only { IfBad result (λ reason. ⊥) }
     ensures faults { CountsReply (K.state link.old).faults (K.state link.new).faults result }
 {
@@ -84,8 +87,8 @@ fn receive_reply<K: Link>(
         (λ t. SaysHead method t.received r.received.head (Ok r.head))) }
     ensures bytes { IfOk result (λ r. IfSome (K.state link.new).traffic
         (λ t. t.received ≡ take r.received.filled buffer.new)) }
-    ensures bad { IfBad result (λ reason. (room : ℕ) → IfSome (K.state link.new).traffic
-        (λ t. IsRefused method room t reason)) }
+    ensures bad { IfBad result (λ reason. IfSome (K.state link.new).traffic (λ t. IsRefusedByHead method t reason)) }
+    ensures only { result ≢ Err Unanswered.Memory }
     ensures kept { Receives (K.state link.old).traffic (K.state link.new).traffic }
     ensures faults { CountsReply (K.state link.old).faults (K.state link.new).faults result }
 {
@@ -100,6 +103,37 @@ fn receive_reply<K: Link>(
     }
 }
 
+/// Receives the head of the reply to a GET. `None`: the status is 404. Any other that isn't 200 is refused.
+pub(crate) fn reply_to_get<K: Link>(
+    link: &mut K,
+    buffer: &mut [u8],
+) -> Result<Option<Reply>, Unanswered>
+    requires size { length buffer.old ≡ head_limit }
+    requires fresh { IfSome (K.state link.old).traffic (λ t. t.received ≡ []) }
+    ensures inside { IfOk result (λ o. IfSome o (λ r. (r.received.head ≤ r.received.filled)
+        × (r.received.filled ≤ length buffer.new))) }
+    ensures ok { IfOk result (λ o. IfSome o (λ r. (r.head.status ≡ 200) × IfSome (K.state link.new).traffic
+        (λ t. SaysHead Method.Get t.received r.received.head (Ok r.head)))) }
+    ensures bytes { IfOk result (λ o. IfSome o (λ r. IfSome (K.state link.new).traffic
+        (λ t. t.received ≡ take r.received.filled buffer.new))) }
+    ensures absent { result ≡ Ok None → IfSome (K.state link.new).traffic (λ t. SaysStatus Method.Get t 404) }
+    ensures bad { IfBad result (λ reason. IfSome (K.state link.new).traffic
+        (λ t. IsRefusedByHead Method.Get t reason)) }
+    ensures only { result ≢ Err Unanswered.Memory }
+    ensures kept { Receives (K.state link.old).traffic (K.state link.new).traffic }
+    ensures faults { CountsReply (K.state link.old).faults (K.state link.new).faults result }
+{
+    let reply = match receive_reply(link, Method::Get, buffer) {
+        Ok(reply) => reply,
+        Err(refused) => return Err(refused),
+    };
+    match reply.head.status {
+        200 => Ok(Some(reply)),
+        404 => Ok(None),
+        status => Err(Unanswered::Bad(BadReply::Status(status))),
+    }
+}
+
 // The answer to a GET.
 fn chunk_in<K: Link>(link: &mut K, out: &mut [u8]) -> Result<Got, Unanswered>
     requires fresh { IfSome (K.state link.old).traffic (λ t. t.received ≡ []) }
@@ -110,17 +144,11 @@ fn chunk_in<K: Link>(link: &mut K, out: &mut [u8]) -> Result<Got, Unanswered>
     ensures faults { CountsReply (K.state link.old).faults (K.state link.new).faults result }
 {
     let mut buffer = [0u8; HEAD_LIMIT];
-    let reply = match receive_reply(link, Method::Get, &mut buffer) {
-        Ok(reply) => reply,
+    let reply = match reply_to_get(link, &mut buffer) {
+        Ok(Some(reply)) => reply,
+        Ok(None) => return Ok(Got::Missing),
         Err(refused) => return Err(refused),
     };
-    let status = reply.head.status;
-    if status == 404 {
-        return Ok(Got::Missing);
-    }
-    if status != 200 {
-        return Err(Unanswered::Bad(BadReply::Status(status)));
-    }
     let read = read_body(link, reply.head.body, reply.received, &mut buffer, out);
     chunk_of(read)
 }

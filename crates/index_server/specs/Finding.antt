@@ -1,5 +1,9 @@
--- How the file of an index is found, and how a request is answered by it.
-use Rattle.std.specs.Prelude.{◌≡◌, ℕ, List, Option, IfOk, IfSome, Result}
+-- How the file of an index is read and found, and how a request is answered by it.
+use Rattle.std.specs.Prelude.{◌≡◌, ℕ, List, Option, IfOk, IfSome, Result, Ok, Err}
+use Rattle.caibx_codec.specs.Listing.{Listing}
+use Rattle.caibx_codec.specs.Reading.{index_in}
+use Rattle.caibx_codec.specs.declared.reading.ReadFault.{ReadFault}
+use Rattle.caibx_codec.specs.declared.reading.ReadFault.TheVariants as errors
 use Rattle.chunk_store.specs.Causes.{CountsCause}
 use Rattle.dsy_base.specs.declared.fault.IoFault.{IoFault}
 use Rattle.dsy_base.specs.declared.fault.IoFault.TheVariants as io
@@ -9,6 +13,13 @@ use Rattle.http_wire.specs.declared.index_request.IndexAct.TheVariants as act
 use Rattle.index_server.specs.Answers.{IndexFolder, index_held, with_index, with_index_length}
 use Rattle.index_server.specs.declared.state.ReadMethod.{ReadMethod}
 use Rattle.index_server.specs.declared.state.ReadMethod.TheVariants as method
+
+-- all of these bytes were read as an index, or there was no memory for it
+abbrev pub ReadsAsIndex : List ℕ → Result Listing ReadFault → Type 0
+ReadsAsIndex b (Ok l) = index_in b ≡ Ok l
+ReadsAsIndex b (Err (errors.Bad f)) = index_in b ≡ Err f
+ReadsAsIndex b (Err errors.Memory) = Unit {0}
+ReadsAsIndex b (Err errors.Over) = ⊥
 
 -- the index of this name was looked for, while the folder came from one state to the other
 pub record FindsFile (name : List ℕ) (old : IndexFolder) (found : Result (Option (List ℕ)) IoFault)

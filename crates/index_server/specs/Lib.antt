@@ -2,3 +2,4 @@ pub mod Answers
 pub mod Finding
 pub mod Talks
 pub mod States
+pub mod Fetching

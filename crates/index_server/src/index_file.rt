@@ -1,12 +1,14 @@
 //! The files of indexes. Sizes are in bytes.
 
 ghost use Rattle.std.specs.Prelude.{◌≡◌, ◌<◌, ◌≤◌, length, true, Err, IfOk, IfSome, OnOk, Some};
+ghost use Rattle.caibx_codec.specs.Answers.{FindsIndex};
 ghost use Rattle.caibx_fields.specs.Limits.{file_limit};
 ghost use Rattle.chunk_store.specs.Causes.{CountsCause};
 ghost use Rattle.dsy_base.specs.Maps.{ReadGives};
 ghost use Rattle.index_server.specs.Answers.{IsSpelled, index_held, is_index, index_folder};
-ghost use Rattle.index_server.specs.Finding.{FindsFile};
+ghost use Rattle.index_server.specs.Finding.{FindsFile, ReadsAsIndex};
 
+use caibx_codec::index::Index;
 use caibx_codec::laws::fault_stays;
 use caibx_codec::reader::IndexReader;
 use caibx_codec::reading::ReadFault;
@@ -54,16 +56,15 @@ fn read_whole<F: Look>(folder: &mut F, name: &str, buffer: &mut Vec<u8>) -> Resu
     folder.read(name, buffer.as_mut_slice())
 }
 
-// Whether the bytes that were fed are the file of a valid index.
-fn is_whole_index(reader: IndexReader) -> Result<bool, Memory>
-    ensures value { IfSome reader (λ b. IfOk result (λ t. t ≡ is_index b)) }
-    ensures exactly { IfSome reader (λ b. IfOk result (λ t. IsSpelled t b)) }
+/// The index whose file these bytes are.
+pub(crate) fn index_of(alloc: Global, bytes: &[u8]) -> Result<Index, ReadFault>
+    ensures exactly { FindsIndex bytes.now result }
+    ensures first { ReadsAsIndex bytes.now result }
 {
-    match reader.finish() {
-        Ok(_) => Ok(true),
-        Err(ReadFault::Bad(_)) => Ok(false),
-        Err(ReadFault::Over | ReadFault::Memory) => Err(Memory),
-    }
+    fault_stays();
+    let mut reader = IndexReader::new(alloc);
+    reader.feed(bytes)?;
+    reader.finish()
 }
 
 /// Whether the bytes are the file of a valid index.
@@ -71,10 +72,8 @@ pub(crate) fn is_index(alloc: Global, bytes: &[u8]) -> Result<bool, Memory>
     ensures value { IfOk result (λ t. t ≡ is_index bytes.now) }
     ensures exactly { IfOk result (λ t. IsSpelled t bytes.now) }
 {
-    fault_stays();
-    let mut reader = IndexReader::new(alloc);
-    match reader.feed(bytes) {
-        Ok(()) => is_whole_index(reader),
+    match index_of(alloc, bytes) {
+        Ok(_) => Ok(true),
         Err(ReadFault::Bad(_)) => Ok(false),
         Err(ReadFault::Over | ReadFault::Memory) => Err(Memory),
     }

@@ -2,6 +2,7 @@
 //! connection is served to its end. Everything is counted in bytes.
 #![tactic(auto)]
 
+pub mod fetch_index;
 mod index_file;
 mod index_service;
 pub mod laws;

@@ -1,0 +1,66 @@
+//! An index fetched from a server. Sizes are in bytes.
+
+ghost use Rattle.index_server.specs.Fetching.{Fetched};
+
+use crate::index_file::index_of;
+use caibx_codec::index::Index;
+use caibx_codec::reading::ReadFault;
+use caibx_fields::fault::IndexFault;
+use caibx_fields::format::FILE_LIMIT;
+use dsy_base::dial::Dial;
+use http_frames::fault::WireFault;
+use http_read::fetch::{Unfetched, fetch};
+use std::alloc::Global;
+
+/// Why no index was fetched.
+#[derive(Clone, Copy, Debug, PartialEq, Eq)]
+pub enum FetchFault {
+    /// The status is 404.
+    Absent,
+    /// The body of a 200 isn't the file of a valid index.
+    Bad(IndexFault),
+    /// The status is neither 200 nor 404.
+    Status(u16),
+    /// The reply isn't a whole one of HTTP. `BodyTooLong`: its body has more bytes than the longest index file.
+    Wire(WireFault),
+    /// The dialer or the connection failed.
+    Failed,
+    Memory,
+}
+
+// Why no index was fetched where its file wasn't.
+fn fault_of(unfetched: Unfetched) -> FetchFault {
+    match unfetched {
+        Unfetched::Absent => FetchFault::Absent,
+        Unfetched::Status(status) => FetchFault::Status(status),
+        Unfetched::Wire(fault) => FetchFault::Wire(fault),
+        Unfetched::Failed => FetchFault::Failed,
+        Unfetched::Memory => FetchFault::Memory,
+    }
+}
+
+// The index whose file was fetched.
+fn read_fetched(alloc: Global, file: &[u8]) -> Result<Index, FetchFault> {
+    match index_of(alloc, file) {
+        Ok(index) => Ok(index),
+        Err(ReadFault::Bad(fault)) => Err(FetchFault::Bad(fault)),
+        Err(ReadFault::Over | ReadFault::Memory) => Err(FetchFault::Memory),
+    }
+}
+
+/// Fetches the index whose file is the body of a 200 to one GET of this path. Host and path are written as they stand:
+/// the path begins with `/`, and neither has a space or the end of a line in it.
+pub fn fetch_index<D: Dial>(
+    alloc: Global,
+    dial: &mut D,
+    host: &str,
+    port: u16,
+    path: &str,
+) -> Result<Index, FetchFault>
+    ensures ends { Fetched host.now port path.now (D.state dial.old) result (D.state dial.new) }
+{
+    match fetch(alloc, dial, host, port, path, FILE_LIMIT as usize) {
+        Ok(file) => read_fetched(alloc, file.as_slice()),
+        Err(unfetched) => Err(fault_of(unfetched)),
+    }
+}
