@@ -18,10 +18,10 @@ use crate::chains::{close_chains, drop_chains, open_chains};
 use crate::filling::{Filling, fill_by, filling_of};
 use chunk_store::id::DigestKind;
 use chunk_store::store::Store;
+use command_indexes::load::load_index;
 use command_outcome::outcome::Outcome;
 use command_steps::any_store::AnyStore;
 use command_steps::cache::{give_shelf, take_shelf};
-use command_steps::input_files::load_index;
 use command_steps::sources::{close_sources, drop_sources, open_sources};
 use command_words::command::{Location, Locations, Names};
 use dsy_base::dial::Dial;
@@ -38,6 +38,7 @@ fn fill_each<R: Threads + Sync, F: Files, D: Dial + Send>(
     rt: &R,
     alloc: Global,
     files: &mut F,
+    dial: &mut D,
     indexes: &[Name],
     filling: Filling<F::Folder, AnyStore<F::Look, D>>,
 ) -> (
@@ -67,13 +68,13 @@ where
     let Ok(name) = Name::of(alloc, first.as_str()) else {
         return (filling, Err(Outcome::Memory));
     };
-    let index = match load_index(alloc, files, name) {
+    let index = match load_index(alloc, files, dial, name) {
         Ok(index) => index,
         Err(outcome) => return (filling, Err(outcome)),
     };
     let (filling, filled) = fill_by(rt, alloc, &index, filling);
     match filled {
-        Ok(()) => fill_each(rt, alloc, files, rest, filling),
+        Ok(()) => fill_each(rt, alloc, files, dial, rest, filling),
         Err(outcome) => (filling, Err(outcome)),
     }
 }
@@ -137,7 +138,7 @@ where
         (Some (shelf_of F.Folder.files F.Folder.place F.Folder.faults filling.cached.shelf)) (F.disk files.old))
         (D.state dial.old)) result (storage (F.disk files.new) (D.state dial.new)) }
 {
-    let (filling, filled) = fill_each(rt, alloc, files, indexes, filling);
+    let (filling, filled) = fill_each(rt, alloc, files, dial, indexes, filling);
     let Filling { cached, further } = filling;
     let (shelf, chain) = cached.into_parts();
     give_shelf(files, cache, shelf);

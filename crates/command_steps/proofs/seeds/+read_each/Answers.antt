@@ -13,14 +13,14 @@ returns-clause-ok g t c =
     let at = g.F.Files.disk in
     let listed = subst (λ (q : List ℕ). Listed (at c.args.files.now) q c.in_ok-index.index) (c.in-Ok.ensures ∙ c.as_str.ensures) c.in_ok-index.ensures.ok in
     rw c.in-Some.ensures.cases.0 (on_ok_weaker c.read_each.result
-    (all_more (at c.args.files.now) (at c.load_index.new.files) c.in_ok-index.ensures.kept c.in-Some.first.now c.in-Some.rest.now c.in_ok-index.index c.args.items c.count.result seed_item_limit c.args.indexes.now.items c.push.new.self.items c.read_each.new.indexes.items
+    (all_more (at c.args.files.now) (at c.load_index_file.new.files) c.in_ok-index.ensures.kept c.in-Some.first.now c.in-Some.rest.now c.in_ok-index.index c.args.items c.count.result seed_item_limit c.args.indexes.now.items c.push.new.self.items c.read_each.new.indexes.items
     listed c.count.ensures c.in-Ok-push.ensures.items) c.read_each.ensures.ok)
 
 pub returns-clause-err : goal.returns-clause-err
 returns-clause-err g t c =
     let at = g.F.Files.disk in
     let d = at c.args.files.now in
-    let b = at c.load_index.new.files in
+    let b = at c.load_index_file.new.files in
     let e = at c.read_each.new.files in
     let k = c.count.result in
     let rest = c.in-Some.rest.now in
@@ -32,9 +32,9 @@ returns-clause-err g t c =
 pub returns-clause-kept : goal.returns-clause-kept
 returns-clause-kept g t c =
     let at = g.F.Files.disk in
-    reads_twice (at c.args.files.now) (at c.load_index.new.files) (at c.read_each.new.files) c.in_ok-index.ensures.kept c.read_each.ensures.kept
+    reads_twice (at c.args.files.now) (at c.load_index_file.new.files) (at c.read_each.new.files) c.in_ok-index.ensures.kept c.read_each.ensures.kept
 
 pub returns-clause-used : goal.returns-clause-used
 returns-clause-used g t c =
     let at = g.F.Files.disk in
-    file_next c.args.names.now c.in-Some.rest.now c.in-Some.first.now c.in-Ok.name (at c.args.files.now) (at c.load_index.new.files) (at c.read_each.new.files) c.in-Some.ensures.cases.0 (c.in-Ok.ensures ∙ c.as_str.ensures) c.in_ok-index.ensures.used c.read_each.ensures.used
+    file_next c.args.names.now c.in-Some.rest.now c.in-Some.first.now c.in-Ok.name (at c.args.files.now) (at c.load_index_file.new.files) (at c.read_each.new.files) c.in-Some.ensures.cases.0 (c.in-Ok.ensures ∙ c.as_str.ensures) c.in_ok-index.ensures.used c.read_each.ensures.used

@@ -1,0 +1,3 @@
+pub mod Got
+pub mod Spelled
+pub mod Fair
