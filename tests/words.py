@@ -22,8 +22,9 @@ OPTIONS = [('store', ['-s', '--store'], 'location'), ('sizes', ['-m', '--chunk-s
            ('in place', ['-k', '--in-place'], None), ('seed', ['--seed'], 'seed'),
            ('repair', ['-r', '--repair'], None), ('yes', ['-y', '--yes'], None),
            ('listen', ['-l', '--listen'], 'address'), ('writable', ['-w', '--writeable'], None),
-           ('digest', ['--digest'], 'digest')]
-NAMED = {spelling: option for option, spellings, _ in OPTIONS for spelling in spellings}
+           ('digest', ['--digest'], 'digest'), ('offset', ['-o', '--offset'], 'bytes'),
+           ('length', ['-l', '--length'], 'bytes')]
+SPELLINGS = sorted({spelling for _, spellings, _ in OPTIONS for spelling in spellings})
 SPELLED = {option: spellings for option, spellings, _ in OPTIONS}
 VALUES = {option: value for option, _, value in OPTIONS if value}
 
@@ -36,6 +37,7 @@ D = {'digest': (0, 1)}
 COMMANDS = {
     'make': ({'store': (1, 1), 'sizes': (0, 1), **N, **D}, (2, 2)),
     'extract': ({'store': (1, 16), 'seed': (0, 64), 'cache': (0, 1), 'in place': (0, 1), **N}, (2, 2)),
+    'cat': ({'store': (1, 16), 'offset': (0, 1), 'length': (0, 1)}, (1, 1)),
     'verify-index': (N, (2, 2)),
     'chop': ({'store': (1, 1), **N}, (2, 2)),
     'cache': ({'store': (1, 16), 'cache': (1, 1), **N}, (1, 64)),
@@ -44,9 +46,18 @@ COMMANDS = {
     'verify': ({'store': (1, 1), 'repair': (0, 1), **N, **D}, (0, 0)),
     'prune': ({'store': (1, 1), 'yes': (1, 1)}, (1, 64)),
     'chunk-server': ({'store': (1, 1), 'listen': (1, 1), 'writable': (0, 1), **N, **D}, (0, 0)),
+    'index-server': ({'store': (1, 1), 'listen': (1, 1), 'writable': (0, 1)}, (0, 0)),
     'demo': ({**N, **D}, (2, 2)),
 }
-FOLDERS_ALONE = ('verify', 'prune', 'chunk-server')
+FOLDERS_ALONE = ('verify', 'prune', 'chunk-server', 'index-server')
+
+# How many of a command's operands are an INDEX, from the first on.
+INDEXES = {'make': 1, 'extract': 1, 'cat': 1, 'verify-index': 1, 'chop': 1, 'cache': 64, 'list-chunks': 1, 'info': 1,
+           'prune': 64}
+
+# Names with `://` that no index has.
+BAD_INDEXES = ['http://h', 'http://h/', 'https://h/a.caibx', 'http://u@h/a.caibx', 'http://u:p@h/a.caibx',
+               'http://h/a.caibx?q', 'http://h/a.caibx?', 'http://h/a.caibx#f', 'http://h:x/a.caibx', 'a://', '://']
 
 # Locations, and what each is.
 LOCATIONS = {'st': 'folder', 'a b': 'folder', '-s': 'folder', '--': 'folder', 'http:/h': 'folder', ':': 'folder',
@@ -84,12 +95,14 @@ def why_not_value(command, option, word):
         parts = word.split(':')
         return None if len(parts) == 3 and all(number(part, 0, 9_999_999) for part in parts) else 'BadSizes'
     if kind == 'seed':
-        return None if word.endswith('.caibx') and word != '.caibx' else 'BadSeed'
+        return None if word.endswith('.caibx') and word != '.caibx' and '://' not in word else 'BadSeed'
     if kind == 'address':
         host, colon, port = word.rpartition(':')
         return None if colon and number(port, 1, 65535) else 'BadListen'
     if kind == 'digest':
         return None if word in ('sha512-256', 'sha256') else 'BadDigest'
+    if kind == 'bytes':
+        return None if number(word, 0, (1 << 64) - 1) else 'BadNumber'
     return None
 
 
@@ -102,7 +115,16 @@ def why_not_operand(command, before, most, word):
         return 'Operands'
     if command == 'demo' and not number(word, 0, ((1 << 64) - 1, 1 << 29)[before]):
         return 'BadNumber'
+    if before < INDEXES.get(command, 0) and '://' in word:
+        expect(word in BAD_INDEXES or command == 'make', f'{word} isn\'t on the list')
+        return 'BadLocation'
     return None
+
+
+def option_of(command, word):
+    """The first option that is spelled so and that the command takes, or none."""
+    return next((option for option, spellings, _ in OPTIONS if word in spellings and option in COMMANDS[command][0]),
+                None)
 
 
 class Faulty(Exception):
@@ -128,8 +150,8 @@ def read(words):
         if not ended and word == '--':
             ended = True
         elif not ended and word.startswith('-'):
-            option = NAMED.get(word)
-            if option not in takes:
+            option = option_of(said.command, word)
+            if option is None:
                 raise Faulty(place, 'UnknownOption')
             if len(said.given[option]) == takes[option][1]:
                 raise Faulty(place, 'TooMany')
@@ -175,7 +197,7 @@ def text_of(said):
             return f'bad chunk sizes: {whys[0]}'
     if said.command == 'demo':
         return ''
-    if said.command in ('cache', 'verify', 'chunk-server'):
+    if said.command in ('cache', 'verify', 'chunk-server', 'index-server'):
         folders = [store for store in said.given['store'] if location(store) != 'url'] + said.given['cache']
         return f'{folders[0]}: no such folder'
     absent = said.operands[1 if said.command == 'make' else 0]
@@ -217,7 +239,7 @@ def agrees(words, folder):
 
 
 GOOD = {'location': 'st', 'sizes': '16:64:256', 'workers': '4', 'folder': 'near', 'seed': 'old.caibx',
-        'address': 'localhost:8080', 'digest': 'sha256'}
+        'address': 'localhost:8080', 'digest': 'sha256', 'bytes': '7'}
 
 
 def fewest(command, but=()):
@@ -241,6 +263,8 @@ def tables(cases):
                 front, operands = fewest(command, but=[option])
                 least_times, times = takes.get(option, (0, 0))
                 for spelling in spellings:
+                    if option_of(command, spelling) not in (None, option):
+                        continue
                     words = front + times * [spelling, *value] + operands
                     expect_equal(agrees(words, folder), 'taken', f'{times} times {spelling}')
                     wanted = 'TooMany' if times else 'UnknownOption'
@@ -266,11 +290,14 @@ def random_value(chance, option):
     if kind == 'workers':
         return chance.choice(['1', '32', '10', '0', '33', '01', '', '+1', '4294967297', 'x', '1 ', '--', '٣'])
     if kind == 'seed':
-        return chance.choice(['a.caibx', 'x/y.caibx', '-.caibx', '.caibx', '', 'a.caibx ', 'a.CAIBX', 'a'])
+        return chance.choice(['a.caibx', 'x/y.caibx', '-.caibx', '.caibx', '', 'a.caibx ', 'a.CAIBX', 'a',
+                              'http://h/a.caibx'])
     if kind == 'address':
         return chance.choice(['h:1', ':65535', '::1:80', 'h:0', 'h:65536', 'h', '', ':', 'h:080', 'h:1x', '-l:5'])
     if kind == 'digest':
         return chance.choice(['sha512-256', 'sha512/256', 'sha512', 'SHA256', 'sha-256', 'sha256 ', 'md5', '', '--'])
+    if kind == 'bytes':
+        return chance.choice(['0', '7', '18446744073709551615', '18446744073709551616', '', '07', '+1', '-1', '--'])
     return chance.choice(['near', '', '--', '-c', '/a'])
 
 
@@ -286,9 +313,9 @@ def random_words(chance):
             parts.append([chance.choice(SPELLED[option]), *value])
     for _ in range(chance.choice([least] * 6 + [min(most, 3), 0, least + 1])):
         parts.append([chance.choice(['7', '0', 'a', 'a.caibx', '18446744073709551615', LARGE] if chance.random() < .9
-                                    else ['', '07', '18446744073709551616', '536870913', '٣'])])
+                                    else ['', '07', '18446744073709551616', '536870913', '٣', *BAD_INDEXES[:4]])])
     if chance.random() < .15:
-        parts.append([chance.choice(list(NAMED))])
+        parts.append([chance.choice(SPELLINGS)])
     if chance.random() < .1:
         parts.append([chance.choice(['-', '--help', '-x', '--stor', '-S', '--store=st', '-sst', '--', 'é'])])
     chance.shuffle(parts)
@@ -300,6 +327,17 @@ def random_words(chance):
     if chance.random() < .1:
         words.append(chance.choice(SPELLED[chance.choice(list(VALUES))]))
     return words
+
+
+def places_of_indexes(cases):
+    """Each command with an INDEX that no index has as its first operand, and as its last."""
+    for command, indexes in INDEXES.items():
+        with cases.case(f'{command}: which INDEX has no place') as folder:
+            front, operands = fewest(command)
+            for word in BAD_INDEXES:
+                expect_equal(agrees([*front, word, *operands[1:]], folder), 'BadLocation', word)
+                wanted = 'BadLocation' if len(operands) <= indexes else 'taken'
+                expect_equal(agrees([*front, *operands[:-1], word], folder), wanted, word)
 
 
 def at_random(cases):
@@ -318,7 +356,7 @@ def at_random(cases):
 def main():
     needs_program('words')
     cases = Cases('words')
-    for group in (tables, at_random):
+    for group in (tables, places_of_indexes, at_random):
         group(cases)
     return cases.end()
 

@@ -1,5 +1,5 @@
 -- The commands that words say keep the limits of the table of options, and each index has a place.
-use Rattle.std.proofs.Common.{◌≡◌, ◌<◌, ◌≤◌, ℕ, All, not, ◌+◌, ◌*◌, ◌-◌, ◌&&◌, ◌||◌, Bool, true, false, List, [], ◌∷◌, length, nat_lt, nat_le, codes, if◌then◌else◌, Option, Some, None, unwrap_or, Result, Ok, Err, IfOk, refl, sym, ap, subst, ◌∙◌, arith}
+use Rattle.std.proofs.Common.{◌≡◌, ◌<◌, ◌≤◌, ℕ, suc, All, not, ◌+◌, ◌*◌, ◌-◌, ◌&&◌, ◌||◌, Bool, true, false, List, [], ◌∷◌, length, nat_lt, nat_le, codes, if◌then◌else◌, Option, Some, None, unwrap_or, Result, Ok, Err, IfOk, refl, sym, ap, subst, ◌∙◌, arith}
 use Rattle.std.specs.Char.{is_ascii_digit}
 use Rattle.std.proofs.lemmas.Bool.{cond-true, leb-true, lt-ltb, ltb-false, true≢false}
 use Rattle.std.proofs.lemmas.Option.{none-some}
@@ -7,7 +7,6 @@ use Rattle.std.proofs.lemmas.List.{length-map}
 use Rattle.std.proofs.lemmas.List.Elements.{All-from_get_or}
 use Rattle.command_line.specs.CommandLine.{command_by, command_line, command_by_roles, command_or_help, command_with, complete, is_alone, number, operand, read_location, stores, ReadsWords}
 use Rattle.command_line.specs.Judging.{demo_operand_refusal, index_refusal, is_empty, judged, lacks, missing_words, name_operand_refusal, name_refusal, operand_refusal, place_refusal, value_refusal}
-use Rattle.command_line.specs.declared.judge.Refusal.{Refusal}
 use Rattle.command_words.specs.declared.command.Command.{Command}
 use Rattle.command_words.specs.declared.command.Command.TheVariants as said
 use Rattle.command_words.specs.declared.location.IndexPlace.{IndexPlace}

@@ -2,7 +2,7 @@
 use Rattle.std.proofs.Common.{◌≡◌, ◌<◌, ◌≤◌, ℕ, zero, suc, ◌+◌, Bool, true, false, List, [], ◌∷◌, ◌++◌, length, get_or, take, ◌==◌, if◌then◌else◌, None, refl, sym, ap, ap₂, subst, ◌∙◌, arith, inl, inr, add-one, eq-eqb, ne_eqb}
 use Rattle.std.proofs.Math.Seq.{get_or-append_seam}
 use Rattle.std.proofs.lemmas.Bool.{cond-true, cond-false, cases_eq}
-use Rattle.std.proofs.lemmas.List.{append-nil, get_or_append_left, length-take, take_all, take_more}
+use Rattle.std.proofs.lemmas.List.{append-nil, get_or_append_left, take_all, take_more}
 use Rattle.std.proofs.lemmas.List.Sums.{sum_by_push}
 use Rattle.command_line.specs.Judging.{operand_refusal, refusal_of, value_refusal}
 use Rattle.command_words.specs.declared.option_table.CommandKind.{CommandKind}
@@ -42,7 +42,7 @@ pushed r q P roles words w e before now i lt =
     elim (cases_eq (role_number q) (role_number r)) [
       | inl same ↦
           let is = one_more r q roles words w e ∙ ap (λ l. old ++ l) (cond-true _ _ _ (eq-eqb (role_number q) (role_number r) same)) in
-          let lt : i < times_of_role r roles + 1 = omega (arith, lt, more, cond-true _ 1 0 (eq-eqb (role_number q) (role_number r) same)) in
+          let lt : i < times_of_role r roles + 1 = omega (arith, lt, more, cond-true {A = ℕ} _ 1 0 (eq-eqb (role_number q) (role_number r) same)) in
           elim (cases_eq i (times_of_role r roles)) [
             | inl last ↦
                 let at = ap₂ (λ l j. get_or l j []) is (last ∙ sym count) ∙ get_or-append_seam old w [] [] in
@@ -54,7 +54,7 @@ pushed r q P roles words w e before now i lt =
       | inr other ↦
           let left = cond-false _ _ _ (ne_eqb (role_number q) (role_number r) other) in
           let is = one_more r q roles words w e ∙ ap (λ l. old ++ l) left ∙ append-nil old in
-          let none = cond-false _ 1 0 (ne_eqb (role_number q) (role_number r) other) in
+          let none = cond-false {A = ℕ} _ 1 0 (ne_eqb (role_number q) (role_number r) other) in
           subst (λ v. P i v) (sym (ap (λ l. get_or l i []) is)) (before i (omega (arith, lt, more, none)))
     ]
 
@@ -66,7 +66,7 @@ Gives k r P = (before : List Role) (w : List ℕ) → role_number (role_of k bef
 
 along : (k : CommandKind) (words : List (List ℕ)) (r : Role) (P : ℕ → List ℕ → Type 0) → Gives k r P
     → (n : ℕ) → n ≤ length words → Pass k words n → Hold r P (roles_of k (take n words)) (take n words)
-along k words r P gives zero le pass i lt = absurd (omega (arith, lt))
+along k words r P gives zero le pass = λ i lt. absurd (omega (arith, lt))
 along k words r P gives (suc n) le pass =
     let w = get_or words n [] in
     let before = roles_of k (take n words) in

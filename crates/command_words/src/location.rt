@@ -6,8 +6,9 @@ ghost use Rattle.std.specs.List.{starts_with};
 ghost use Rattle.std.specs.Str.{bytes_eq};
 ghost use Rattle.url.specs.Parser.{parse_url};
 ghost use Rattle.command_words.specs.Locations.{contains_scheme, is_out_of_room, is_plain_http, without_last_slash};
-ghost use Rattle.command_words.specs.Locations.{server_of, url_location, location_of, Locates, host_of, port_of};
-ghost use Rattle.command_words.specs.Locations.{no_url, is_index_url, names_an_index, index_server_of, index_url, index_place_of};
+ghost use Rattle.command_words.specs.Locations.{no_url, server_of, url_location, location_of, Locates, host_of};
+ghost use Rattle.command_words.specs.Locations.{port_of, is_index_url, names_an_index, index_server_of, index_url};
+ghost use Rattle.command_words.specs.Locations.{index_place_of};
 
 use crate::command::Location;
 use dsy_base::name::Name;
@@ -152,10 +153,8 @@ pub fn read_location(alloc: Global, word: &str) -> Result<Location, NoLocation>
     if has_scheme(bytes) {
         return read_url(alloc, word);
     }
-    match Name::of(alloc, word) {
-        Ok(name) => Ok(Location::Folder(name)),
-        Err(_) => Err(NoLocation::Memory),
-    }
+    let name = Name::of(alloc, word).map_err(|_| NoLocation::Memory)?;
+    Ok(Location::Folder(name))
 }
 
 /// Whether an index of this name is asked for over HTTP, and is no file.
@@ -207,8 +206,6 @@ pub fn read_index_place(alloc: Global, word: &str) -> Result<IndexPlace, NoLocat
     if is_index_url(word) {
         return read_index_url(alloc, word);
     }
-    match Name::of(alloc, word) {
-        Ok(name) => Ok(IndexPlace::File(name)),
-        Err(_) => Err(NoLocation::Memory),
-    }
+    let name = Name::of(alloc, word).map_err(|_| NoLocation::Memory)?;
+    Ok(IndexPlace::File(name))
 }

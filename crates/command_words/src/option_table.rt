@@ -1,7 +1,7 @@
-//! The commands and the options, a row each: how they are spelled, and which command takes which option how often. A new
-//! option is a variant and its row, and stands in the rows of the commands that take it; a new command is a variant and
-//! its row. A spelling that stands in two rows means the option that the command takes. The contracts have rows of their
-//! own, which these are proved to be.
+//! The commands and the options, a row each: how they are spelled, and which command takes which option
+//! how often. A new option is a variant and its row, and stands in the rows of the commands that take
+//! it; a new command is a variant and its row. A spelling in two rows means the option that the command
+//! takes. The contracts have rows of their own, which these are proved to be.
 
 ghost use Rattle.std.specs.Prelude.{◌≡◌, ◌<◌, ◌&&◌, false, map, unwrap_or};
 ghost use Rattle.std.specs.Str.{bytes_eq};
@@ -191,8 +191,8 @@ fn commands() -> &'static [CommandRow]
 }
 
 fn short_among(rows: &[OptionRow], kind: CommandKind, word: &str) -> Option<OptionKind>
-    ensures { let passes = λ row. bytes_eq word.now row.1.now && takes_option kind row.0 in
-        result ≡ first_row passes (λ row. row.0) rows.now }
+    ensures { result
+        ≡ first_row (λ row. bytes_eq word.now row.1.now && takes_option kind row.0) (λ row. row.0) rows.now }
 {
     let row = rows
         .iter()
@@ -201,8 +201,8 @@ fn short_among(rows: &[OptionRow], kind: CommandKind, word: &str) -> Option<Opti
 }
 
 fn long_among(rows: &[OptionRow], kind: CommandKind, word: &str) -> Option<OptionKind>
-    ensures { let passes = λ row. bytes_eq word.now row.2.now && takes_option kind row.0 in
-        result ≡ first_row passes (λ row. row.0) rows.now }
+    ensures { result
+        ≡ first_row (λ row. bytes_eq word.now row.2.now && takes_option kind row.0) (λ row. row.0) rows.now }
 {
     let row = rows
         .iter()
@@ -246,7 +246,7 @@ fn times_by(rows: &[CommandRow], kind: CommandKind, option: OptionKind) -> Times
 }
 
 fn takes_by(rows: &[CommandRow], kind: CommandKind) -> Takes
-    ensures { result ≡ unwrap_or (first_row (λ row. same_command row.0 kind) (λ row. row.3) rows.now) (names 0 0) }
+    ensures { result ≡ unwrap_or (first_row (λ row. same_command row.0 kind) (λ row. row.3) rows.now) (names 0 0 0) }
 {
     match rows.iter().find(|row| row.0 == kind) {
         Some(row) => row.3,

@@ -5,4 +5,4 @@ use Rattle.command_words.proofs.option_table.CommandKind.takes.Goals as goal
 
 pub returns : goal.returns
 unfolding takes_of
-returns c = c.takes_by.ensures ∙ ap (λ o. unwrap_or o (names 0 0)) (found_as _ (λ row. same_command row.0 c.args.self) (λ row. row.3) _ _ c.commands.ensures)
+returns c = c.takes_by.ensures ∙ ap (λ o. unwrap_or o (names 0 0 0)) (found_as _ (λ row. same_command row.0 c.args.self) (λ row. row.3) _ _ c.commands.ensures)
