@@ -1,5 +1,5 @@
 -- What getting indexes leaves, and whose fault its refusals tell.
-use Rattle.std.proofs.Common.{◌≡◌, ◌∙◌, ◌&&◌, ℕ, ◌+◌, suc, Bool, true, false, IsTrue, List, [], ◌∷◌, Result, Ok, Err, refl, sym, ap, subst, inl, inr, arith}
+use Rattle.std.proofs.Common.{◌≡◌, ◌∙◌, ◌&&◌, ℕ, suc, Bool, true, false, IsTrue, List, [], ◌∷◌, Result, Ok, Err, refl, sym, ap, subst, inr, arith}
 use Rattle.std.specs.List.{Contains}
 use Rattle.caibx_codec.specs.Listing.{Listing}
 use Rattle.command_indexes.proofs.Got.{got_dials, got_file, got_not_spelled, got_reads}

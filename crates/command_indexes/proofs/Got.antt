@@ -1,18 +1,19 @@
 -- What is left by the step that gets an index, and what it shows.
-use Rattle.std.proofs.Common.{◌≡◌, ◌⊎◌, ◌∙◌, ℕ, Bool, true, false, not, IsTrue, List, [], ◌∷◌, Option, Some, None, IfSome, Result, Ok, Err, cond, refl, sym, ap, subst, inl, inr, arith}
+use Rattle.std.proofs.Common.{◌≡◌, ◌≢◌, ◌⊎◌, ℕ, Bool, true, false, not, IsTrue, List, [], ◌∷◌, Option, Some, None, IfSome, Result, Ok, Err, cond, refl, sym, ap, subst, inl, inr, arith}
 use Rattle.std.specs.List.{Any}
 use Rattle.caibx_codec.specs.Listing.{Listing}
-use Rattle.command_indexes.specs.Gets.{GotAt, IndexFetched, IndexGot, answer_of_fetch}
+use Rattle.command_indexes.specs.Gets.{GotAt, IndexGot, answer_of_fetch}
 use Rattle.command_indexes.specs.Spelled.{AsksOnceAt, HasReplied, NotServed, NotSpelledAt, SpellsAt}
 use Rattle.command_outcome.specs.declared.outcome.Outcome.{Outcome}
 use Rattle.command_outcome.specs.declared.outcome.Outcome.TheVariants as ends
 use Rattle.command_steps.proofs.Consulted.{reads_none}
 use Rattle.command_steps.proofs.Dialed.{dials_same, grows_none, since_is}
+use Rattle.command_steps.proofs.Used.{uses_none}
 use Rattle.command_steps.specs.Blames.{IsUnfetched}
 use Rattle.command_steps.specs.Dials.{Dials, EndedGrows, since}
 use Rattle.command_steps.specs.InputFiles.{IndexRead}
 use Rattle.command_steps.specs.Sources.{NotAsking, Storage}
-use Rattle.command_words.specs.Locations.{index_place_of, index_url, is_index_url}
+use Rattle.command_words.specs.Locations.{index_place_of, is_index_url}
 use Rattle.command_words.specs.declared.location.IndexPlace.{IndexPlace}
 use Rattle.command_words.specs.declared.location.IndexPlace.TheVariants as places
 use Rattle.command_words.specs.declared.location.NoLocation.{NoLocation}
@@ -24,7 +25,6 @@ use Rattle.http_read.specs.Remotes.{AddsOne}
 use Rattle.index_server.specs.Fetching.{Fetched, RepliesOfIndex, asks_index}
 use Rattle.index_server.specs.declared.fetch_index.FetchFault.{FetchFault}
 use Rattle.index_server.specs.declared.fetch_index.FetchFault.TheVariants as fetch
-use Rattle.url.specs.Parser.{parse_url}
 
 -- ---- one connection
 
@@ -41,7 +41,7 @@ fetched_dials host port path k j r h = record { ended = grows_called _ k.ended j
 
 -- it stands among what has ended since
 since_one : (P Q : Traffic → Type 0) → ((t : Traffic) → P t → Q t) → (a b : Option (List Traffic)) → AddsOne P a b → IfSome (since a b) (Any Q)
-since_one P Q on None b h = subst (λ o. IfSome o (Any Q)) (sym h) tt
+since_one P Q on None b h = tt
 since_one P Q on (Some x) b (t, is, p) =
     let one : Any Q (t ∷ []) = (0, t, omega arith, refl, on t p) in
     subst (λ o. IfSome (since (Some x) o) (Any Q)) (sym is) (subst (λ o. IfSome o (Any Q)) (sym (since_is x (t ∷ []))) one)
@@ -52,8 +52,12 @@ is_false : (b : Bool) → IsTrue (not b) → b ≡ false
 is_false true h = absurd (cc)
 is_false false h = refl
 
+else_is : {X : Type 0} (b : Bool) (x y : X) → b ≡ false → cond b x y ≡ y
+else_is true x y same = absurd (cc)
+else_is false x y same = refl
+
 place_of_file : (q : List ℕ) → is_index_url q ≡ false → index_place_of q ≡ Ok (places.File q)
-place_of_file q same = ap (λ b. cond b (index_url (parse_url None q)) (Ok (places.File q))) same
+place_of_file q same = else_is (is_index_url q) _ (Ok (places.File q)) same
 
 -- no server is asked for it
 pub got_file : (q : List ℕ) (w : Storage) (r : Result Listing Outcome) (v : Storage) → IsTrue (not (is_index_url q)) → IndexGot q w r v → NotAsking (IndexRead q) w r v
@@ -82,6 +86,18 @@ got_asks q (Ok (places.File name)) w r v h = ap (λ k. k.ended) h.1
 got_asks q (Ok (places.Http host port path)) w r v h = h.fetched.calls
 got_asks q (Err no.Memory) w r v h = ap (λ u. u.dial.ended) h.1
 got_asks q (Err no.Bad) w r v h = absurd h
+
+-- there was no memory to begin
+pub got_lacking : (q : List ℕ) (p : Result IndexPlace NoLocation) (w : Storage) → p ≢ Err no.Bad → GotAt q p w (Err ends.Memory) w
+got_lacking q (Ok (places.File name)) w named = ((tt, reads_none w.disk, uses_none (q ∷ []) [] w.disk), refl)
+got_lacking q (Ok (places.Http host port path)) w named = record {
+  reply = Err fetch.Memory;
+  answer = refl;
+  fetched = record { calls = inl refl; reply = tt; lacking = λ _. inl refl; faults = record { never_falls = omega arith; cause = λ no. absurd (cc); unfailed = λ _. omega arith } };
+  kept = refl;
+}
+got_lacking q (Err no.Memory) w named = (refl, refl)
+got_lacking q (Err no.Bad) w named = absurd (named refl)
 
 -- ---- what is shown
 

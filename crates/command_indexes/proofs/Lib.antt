@@ -1,3 +1,4 @@
 pub mod Got
+pub mod InOrder
 pub mod Spelled
 pub mod Fair

@@ -1,5 +1,5 @@
 -- What operands spelled over a part of a command they spelled over all of it.
-use Rattle.std.proofs.Common.{◌≡◌, ◌≤◌, ℕ, List, [], ◌∷◌, Some, None, Result, Ok, Err, IfSome, subst}
+use Rattle.std.proofs.Common.{◌≡◌, ◌≤◌, ℕ, List, Some, None, Result, Ok, Err, IfSome, subst}
 use Rattle.std.specs.Map.{count_at}
 use Rattle.caibx_codec.specs.Listing.{Listing}
 use Rattle.command_indexes.specs.Spelled.{HasReplied, NotServed, NotSpelled, NotSpelledAt, Spells, SpellsAt}
@@ -15,8 +15,8 @@ use Rattle.command_words.specs.Locations.{index_place_of}
 use Rattle.command_words.specs.declared.location.IndexPlace.{IndexPlace}
 use Rattle.command_words.specs.declared.location.IndexPlace.TheVariants as places
 use Rattle.command_words.specs.declared.location.NoLocation.{NoLocation}
-use Rattle.dsy_base.specs.Disk.{Disk}
 use Rattle.index_server.specs.declared.fetch_index.FetchFault.{FetchFault}
+use Rattle.index_server.specs.declared.fetch_index.FetchFault.TheVariants as fetch
 
 -- the part from u to x of what went from w to v: files held the same at its start, and no number has fallen beside it
 pub record IsPart (w u x v : Storage) : Type 0 where
@@ -53,8 +53,8 @@ module _ (w u x v : Storage) (part : IsPart w u x v) where
   unread q other h = absurd h
 
   unserved : (q host : List ℕ) (port : ℕ) (path : List ℕ) (o : Outcome) → NotServed q host port path u x o → NotServed q host port path w v o
-  unserved q host port path (ends.NoFile name) h = (h.0, replied_wider host port path _ h.1)
-  unserved q host port path (ends.BadIndex name fault) h = (h.0, replied_wider host port path _ h.1)
+  unserved q host port path (ends.NoFile name) h = (h.0, replied_wider host port path (Err fetch.Absent) h.1)
+  unserved q host port path (ends.BadIndex name fault) h = (h.0, replied_wider host port path (Err (fetch.Bad fault)) h.1)
   unserved q host port path (ends.FileFault name) h =
       let place = Ok (places.Http host port path) in
       (h.0, index_rose_longer w.dial x.dial v.dial (dials_twice w.dial u.dial x.dial part.before part.during) part.after place (index_rose_later w.dial u.dial x.dial part.before part.during place h.1))

@@ -27,7 +27,9 @@ fn unfetched(fault: FetchFault, name: Name) -> Outcome
     match fault {
         FetchFault::Absent => Outcome::NoFile { name },
         FetchFault::Bad(fault) => Outcome::BadIndex { name, fault },
-        FetchFault::Status(_) | FetchFault::Wire(_) | FetchFault::Failed => Outcome::FileFault { name },
+        FetchFault::Status(_) | FetchFault::Wire(_) | FetchFault::Failed => Outcome::FileFault {
+            name,
+        },
         FetchFault::Memory => Outcome::Memory,
     }
 }
