@@ -7,10 +7,7 @@ use Rattle.http_read.specs.Answers.{AnswersGet, got_of}
 use Rattle.http_read.specs.Reads.{CountsReply, CountsRead, IfBad, IfWire, IsBody, IsFault}
 use Rattle.http_read.specs.Refusals.{IsRefused, IsUnwanted}
 use Rattle.http_read.specs.Replies.{SaysHead, SaysLonger, SaysStatus}
-use Rattle.http_read.specs.declared.fault.BadReply.{BadReply}
 use Rattle.http_read.specs.declared.fault.BadReply.TheVariants as bad
-use Rattle.http_read.specs.declared.fault.Unanswered.{Unanswered}
-use Rattle.http_read.specs.declared.fault.Unanswered.TheVariants as unanswered
 use Rattle.http_read.specs.declared.fault.Unread.{Unread}
 use Rattle.http_read.specs.declared.fault.Unread.TheVariants as unread
 use Rattle.http_frames.specs.declared.fault.WireFault.{WireFault}
@@ -39,14 +36,14 @@ pub is_unwanted : (m : Method) (room : ℕ) (traffic : Option Traffic) (size : �
 is_unwanted m room traffic size head unwanted says =
     weaker traffic (λ t status. (status, unwanted)) (has_status m traffic size head head.status refl says)
 
-both_are : {P Q R : Traffic → Type 0} → (o : Option Traffic) → ((t : Traffic) → P t → Q t → R t) → IfSome o P → IfSome o Q → IfSome o R
+pub both_are : {P Q R : Traffic → Type 0} → (o : Option Traffic) → ((t : Traffic) → P t → Q t → R t) → IfSome o P → IfSome o Q → IfSome o R
 both_are None f p q = tt
 both_are (Some t) f p q = f t p q
 
-abbrev Says200 : Traffic → ℕ → ReplyHead → Type 0
+abbrev pub Says200 : Traffic → ℕ → ReplyHead → Type 0
 Says200 t size head = SaysHead method.Get t.received size (Ok (record { status = 200; body = head.body }))
 
-is_200 : (traffic : Option Traffic) (size : ℕ) (head : ReplyHead) → head.status ≡ 200 → Says method.Get traffic size head
+pub is_200 : (traffic : Option Traffic) (size : ℕ) (head : ReplyHead) → head.status ≡ 200 → Says method.Get traffic size head
     → IfSome traffic (λ t. Says200 t size head)
 is_200 traffic size head is says =
     weaker traffic (λ t head_says. subst (λ n. SaysHead method.Get t.received size (Ok (record { status = n; body = head.body }))) is head_says) says
@@ -126,10 +123,3 @@ counts old new (Err (unread.Wire faults.Framing)) is = is
 counts old new (Err (unread.Wire faults.BadChunk)) is = is
 counts old new (Err (unread.Wire faults.BodyTooLong)) is = is
 counts old new (Err (unread.Wire faults.CutShort)) is = is
-
--- the same refusal in another place
-pub bad_weaker : (A B : Type 0) (P Q : BadReply → Type 0) (u : Unanswered) → ((reason : BadReply) → P reason → Q reason)
-    → IfBad {A = A} (Err u) P → IfBad {A = B} (Err u) Q
-bad_weaker A B P Q (unanswered.Bad reason) more is = more reason is
-bad_weaker A B P Q unanswered.Failed more is = tt
-bad_weaker A B P Q unanswered.Memory more is = tt

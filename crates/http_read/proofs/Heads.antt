@@ -7,9 +7,12 @@ use Rattle.std.proofs.lemmas.List.{length-append, take-append-le}
 use Rattle.dsy_base.specs.Links.{Traffic}
 use Rattle.http_read.proofs.Streams.{weaker}
 use Rattle.http_read.specs.Reads.{CountsReply, CountsRead, IfBad, IfWire, Receives, unanswered_of}
-use Rattle.http_read.specs.Refusals.{HasNoHead, IsRefused}
+use Rattle.http_read.specs.Refusals.{HasNoHead, IsRefused, IsRefusedByHead}
 use Rattle.http_read.specs.Replies.{SaysHead}
+use Rattle.http_read.specs.declared.fault.BadReply.{BadReply}
 use Rattle.http_read.specs.declared.fault.BadReply.TheVariants as bad
+use Rattle.http_read.specs.declared.fault.Unanswered.{Unanswered}
+use Rattle.http_read.specs.declared.fault.Unanswered.TheVariants as unanswered
 use Rattle.http_read.specs.declared.fault.Unread.{Unread}
 use Rattle.http_read.specs.declared.fault.Unread.TheVariants as unread
 use Rattle.http_read.specs.declared.receiving.Received.{Received}
@@ -49,14 +52,27 @@ says_head m head filled buffer slice says traffic le fits size ends is found abs
 -- a fault before the head's end
 pub refused_early : (A : Type 0) (m : Method) (u : Unread) (traffic : Option Traffic)
     → IfWire {A = Received} (Err u) (λ f. IfSome traffic (λ t. HasNoHead t f))
-    → IfBad {A = A} (Err (unanswered_of u)) (λ reason. (room : ℕ) → IfSome traffic (λ t. IsRefused m room t reason))
-refused_early A m (unread.Wire f) traffic is = λ room. weaker traffic (λ t none. inl none) is
+    → IfBad {A = A} (Err (unanswered_of u)) (λ reason. IfSome traffic (λ t. IsRefusedByHead m t reason))
+refused_early A m (unread.Wire f) traffic is = weaker traffic (λ t none. inl none) is
 refused_early A m unread.Failed traffic is = tt
 
 -- a fault of the head
 pub refused_head : (m : Method) (head : ℕ) (f : WireFault) (traffic : Option Traffic) → IfSome traffic (λ t. SaysHead m t.received head (Err f))
-    → (room : ℕ) → IfSome traffic (λ t. IsRefused m room t (bad.Wire f))
-refused_head m head f traffic says = λ room. weaker traffic (λ t is. inr (inl (record { size = head; says = is }))) says
+    → IfSome traffic (λ t. IsRefusedByHead m t (bad.Wire f))
+refused_head m head f traffic says = weaker traffic (λ t is. inr (record { size = head; says = is })) says
+
+-- what a head refuses is refused with any room
+pub by_head : (m : Method) (room : ℕ) (t : Traffic) (reason : BadReply) → IsRefusedByHead m t reason → IsRefused m room t reason
+by_head m room t (bad.Status status) is = is
+by_head m room t (bad.Wire f) (inl none) = inl none
+by_head m room t (bad.Wire f) (inr head) = inr (inl head)
+
+pub refused_by_head : (A B : Type 0) (m : Method) (room : ℕ) (traffic : Option Traffic) (u : Unanswered)
+    → IfBad {A = A} (Err u) (λ reason. IfSome traffic (λ t. IsRefusedByHead m t reason))
+    → IfBad {A = B} (Err u) (λ reason. IfSome traffic (λ t. IsRefused m room t reason))
+refused_by_head A B m room traffic (unanswered.Bad reason) is = weaker traffic (λ t head. by_head m room t reason head) is
+refused_by_head A B m room traffic unanswered.Failed is = tt
+refused_by_head A B m room traffic unanswered.Memory is = tt
 
 pub counts_early : (A : Type 0) (u : Unread) (old new : ℕ) → CountsRead {A = Received} old new (Err u) → CountsReply {A = A} old new (Err (unanswered_of u))
 counts_early A (unread.Wire f) old new is = is

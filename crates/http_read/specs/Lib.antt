@@ -5,4 +5,3 @@ pub mod Reads
 pub mod Answers
 pub mod Remotes
 pub mod Calls
-pub mod Fetching

@@ -41,6 +41,11 @@ IsUnwanted method.Get status = (status ≢ 200) × (status ≢ 404)
 IsUnwanted method.Head status = (status ≢ 200) × (status ≢ 404)
 IsUnwanted method.Put status = (status < 200) ⊎ (300 ≤ status)
 
+-- no head came, or one that isn't taken, for this reason
+abbrev pub IsRefusedByHead : Method → Traffic → BadReply → Type 0
+IsRefusedByHead m t (bad.Status status) = SaysStatus m t status × IsUnwanted m status
+IsRefusedByHead m t (bad.Wire f) = HasNoHead t f ⊎ HasBadHead m t f
+
 -- what was received isn't taken, for this reason, with this much room for a body
 abbrev pub IsRefused : Method → ℕ → Traffic → BadReply → Type 0
 IsRefused m room t (bad.Status status) = SaysStatus m t status × IsUnwanted m status

@@ -134,9 +134,9 @@ fn read_on<K: Link>(
     Ok(reader.filled())
 }
 
-// Reads the body behind the head that was received, of which the buffer holds what came with the head. Fills the front
-// of `out` with it, and answers its size.
-pub(crate) fn read_body<K: Link>(
+/// Reads the body behind the head that was received, of which the buffer holds what came with the head. Fills the front
+/// of `out` with it, and answers its size.
+pub fn read_body<K: Link>(
     link: &mut K,
     kind: BodyKind,
     received: Received,

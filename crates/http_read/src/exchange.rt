@@ -7,9 +7,8 @@ ghost use Rattle.dsy_base.specs.Links.{IsFreshLink, sends};
 ghost use Rattle.http_frames.specs.HeadEnd.{head_limit};
 ghost use Rattle.http_read.specs.Asks.{IsFront};
 ghost use Rattle.http_read.specs.Answers.{AnswersGet, AnswersHead, AnswersPut, got_of};
-ghost use Rattle.http_read.specs.Fetching.{IsRefusedByHead};
 ghost use Rattle.http_read.specs.Reads.{CountsReply, IfBad, Receives, SendsFront, unanswered_of};
-ghost use Rattle.http_read.specs.Refusals.{IsBadReply, IsRefused};
+ghost use Rattle.http_read.specs.Refusals.{IsBadReply, IsRefused, IsRefusedByHead};
 ghost use Rattle.http_read.specs.Replies.{SaysHead, SaysStatus};
 
 use crate::body::read_body;
@@ -32,13 +31,13 @@ pub(crate) enum Got {
 
 /// The head of a reply, and what was received with it.
 #[derive(Clone, Copy, Debug, PartialEq, Eq)]
-pub(crate) struct Reply {
-    pub(crate) head: ReplyHead,
-    pub(crate) received: Received,
+pub struct Reply {
+    pub head: ReplyHead,
+    pub received: Received,
 }
 
 /// Why there is no answer where something isn't read.
-pub(crate) fn unanswered(unread: Unread) -> Unanswered
+pub fn unanswered(unread: Unread) -> Unanswered
     ensures { result ≡ unanswered_of unread }
 {
     match unread {
@@ -59,9 +58,9 @@ fn chunk_of(read: Result<usize, Unread>) -> Result<Got, Unanswered>
 }
 
 /// Sends these bytes.
-pub(crate) fn send<K: Link>(link: &mut K, b: &[u8]) -> Result<(), Unanswered>
+pub fn send<K: Link>(link: &mut K, b: &[u8]) -> Result<(), Unanswered>
     ensures ok { OnOk result ((K.state link.new).traffic ≡ option_map (sends b.now) (K.state link.old).traffic) }
-    ensures front { SendsFront b.now (K.state link.old).traffic (K.state link.new).traffic }
+    ensures sends { SendsFront b.now (K.state link.old).traffic (K.state link.new).traffic }
     ensures kept { result ≡ Err Unanswered.Memory → (K.state link.new).traffic ≡ (K.state link.old).traffic }
     ensures only { IfBad result (λ reason. ⊥) }
     ensures faults { CountsReply (K.state link.old).faults (K.state link.new).faults result }
@@ -104,10 +103,7 @@ fn receive_reply<K: Link>(
 }
 
 /// Receives the head of the reply to a GET. `None`: the status is 404. Any other that isn't 200 is refused.
-pub(crate) fn reply_to_get<K: Link>(
-    link: &mut K,
-    buffer: &mut [u8],
-) -> Result<Option<Reply>, Unanswered>
+pub fn reply_to_get<K: Link>(link: &mut K, buffer: &mut [u8]) -> Result<Option<Reply>, Unanswered>
     requires size { length buffer.old ≡ head_limit }
     requires fresh { IfSome (K.state link.old).traffic (λ t. t.received ≡ []) }
     ensures inside { IfOk result (λ o. IfSome o (λ r. (r.received.head ≤ r.received.filled)
@@ -117,7 +113,7 @@ pub(crate) fn reply_to_get<K: Link>(
     ensures bytes { IfOk result (λ o. IfSome o (λ r. IfSome (K.state link.new).traffic
         (λ t. t.received ≡ take r.received.filled buffer.new))) }
     ensures absent { result ≡ Ok None → IfSome (K.state link.new).traffic (λ t. SaysStatus Method.Get t 404) }
-    ensures bad { IfBad result (λ reason. IfSome (K.state link.new).traffic
+    ensures err { IfBad result (λ reason. IfSome (K.state link.new).traffic
         (λ t. IsRefusedByHead Method.Get t reason)) }
     ensures only { result ≢ Err Unanswered.Memory }
     ensures kept { Receives (K.state link.old).traffic (K.state link.new).traffic }
@@ -127,11 +123,14 @@ pub(crate) fn reply_to_get<K: Link>(
         Ok(reply) => reply,
         Err(refused) => return Err(refused),
     };
-    match reply.head.status {
-        200 => Ok(Some(reply)),
-        404 => Ok(None),
-        status => Err(Unanswered::Bad(BadReply::Status(status))),
+    let status = reply.head.status;
+    if status == 404 {
+        return Ok(None);
     }
+    if status != 200 {
+        return Err(Unanswered::Bad(BadReply::Status(status)));
+    }
+    Ok(Some(reply))
 }
 
 // The answer to a GET.

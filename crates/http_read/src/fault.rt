@@ -11,17 +11,19 @@ pub enum BadReply {
     Wire(WireFault),
 }
 
-// Why what comes on a connection isn't read.
+/// Why what comes on a connection isn't read.
 #[derive(Clone, Copy, Debug, PartialEq, Eq)]
-pub(crate) enum Unread {
+pub enum Unread {
     Wire(WireFault),
+    /// The connection failed.
     Failed,
 }
 
-// Why an ask has no answer.
+/// Why an ask has no answer.
 #[derive(Clone, Copy, Debug, PartialEq, Eq)]
-pub(crate) enum Unanswered {
+pub enum Unanswered {
     Bad(BadReply),
+    /// The connection failed.
     Failed,
     Memory,
 }

@@ -10,11 +10,11 @@ use dsy_base::link::Link;
 use http_frames::fault::WireFault;
 use http_frames::head::head_end;
 
-// What was received up to the read in which the head ended: the size of the head, and of all of it.
+/// What was received up to the read in which the head ended: the size of the head, and of all of it.
 #[derive(Clone, Copy, Debug, PartialEq, Eq)]
-pub(crate) struct Received {
-    pub(crate) head: usize,
-    pub(crate) filled: usize,
+pub struct Received {
+    pub head: usize,
+    pub filled: usize,
 }
 
 // Reads into the buffer behind its first `filled` bytes, and answers how many are filled then. `CutShort`: no more

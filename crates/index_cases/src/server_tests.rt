@@ -177,11 +177,11 @@ fn an_index_stays_where_what_is_put_is_none(rt: HostRuntime) {
     gets(&rt, alloc, &mut state, 200, &INDEX_OF_ABC);
 }
 
-// A file that is no index isn't given, for which it is read twice: without room, and with it. Then two calls fail.
+// A file that is no index isn't given, for which it is read once. Then two calls fail.
 #[test]
 fn damaged_indexes_and_faults_are_told(rt: HostRuntime) {
     let alloc = rt.alloc();
-    let mut folder = MemFolder::new(alloc, ok(&rt, vec![in alloc; 3, 4]));
+    let mut folder = MemFolder::new(alloc, ok(&rt, vec![in alloc; 2, 3]));
     ok(&rt, folder.put("a.caibx", &INDEX_OF_ABC[..143]));
     let mut state = IndexState::new(alloc, folder, true);
     gets(&rt, alloc, &mut state, 404, b"");

@@ -2,10 +2,6 @@
 use Rattle.std.proofs.Common.{◌≡◌, ℕ, ◌≤◌, List, length, nat_le, ◌&&◌, Bool, true, false, cond, Result, Ok, Err, Option, Some, None, inl, inr, refl, sym, ap, subst, ◌∙◌, arith, is_ok}
 use Rattle.std.specs.Prelude.{IfOk, IfSome}
 use Rattle.std.specs.Option.{option_map}
-use Rattle.caibx_codec.specs.Reading.{Read, fault_in_read, first_fault, index_in, index_start, is_read_whole, listing_read, reads_index, ◌>>=◌}
-use Rattle.caibx_codec.specs.Listing.{Listing}
-use Rattle.caibx_fields.specs.declared.fault.IndexFault.{IndexFault}
-use Rattle.caibx_fields.specs.declared.fault.IndexFault.TheVariants as faults
 use Rattle.dsy_base.specs.Folders.{put_in}
 use Rattle.dsy_base.specs.Maps.{Map}
 use Rattle.http_serve.specs.Answers.{Answer, bare}
@@ -15,17 +11,6 @@ use Rattle.index_server.specs.Answers.{IndexFolder, AnswersIndexOrFails, index_a
 use Rattle.index_server.specs.Finding.{FindsFile, index_answer_by, index_asked_by}
 use Rattle.index_server.specs.declared.state.ReadMethod.{ReadMethod}
 use Rattle.index_server.specs.declared.state.ReadMethod.TheVariants as method
-
--- bytes that show a fault are no index
-pub no_index : (b : List ℕ) (f : IndexFault) → first_fault b ≡ Some f → is_index b ≡ false
-unfolding first_fault index_in
-no_index b f h = go (reads_index index_start b) h where
-  rest : Read → Result Listing IndexFault
-  rest r = cond (is_read_whole r.fields.next) (Ok (listing_read r)) (Err (faults.Truncated (length b)))
-
-  go : (r : Result Read IndexFault) → fault_in_read r ≡ Some f → is_ok (r >>= rest) ≡ false
-  go (Ok x) h = absurd (cc)
-  go (Err e) h = refl
 
 told_more : {P Q : Map (List ℕ) → Type 0} (o : Option (Map (List ℕ))) → ((m : Map (List ℕ)) → P m → Q m) → IfSome o P → IfSome o Q
 told_more None f p = tt

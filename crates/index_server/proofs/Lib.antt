@@ -1,2 +1,5 @@
 pub mod Answered
 pub mod Exact
+pub mod ReadIndex
+pub mod FetchedIndex
+pub mod OneIndex

@@ -7,11 +7,11 @@ use Rattle.caibx_fields.specs.Limits.{file_limit}
 use Rattle.caibx_fields.specs.declared.fault.IndexFault.{IndexFault}
 use Rattle.dsy_base.specs.Links.{DialState, Traffic}
 use Rattle.http_read.specs.Asks.{IsFront}
-use Rattle.http_read.specs.Fetching.{CountsFetch, GivesBody, RefusesGet}
+use Rattle.http_fetch.specs.Fetching.{CountsFetch, GivesBody, RefusesGet}
 use Rattle.http_read.specs.Remotes.{AddsOne}
 use Rattle.http_read.specs.Replies.{SaysStatus}
-use Rattle.http_read.specs.declared.fetch.Unfetched.{Unfetched}
-use Rattle.http_read.specs.declared.fetch.Unfetched.TheVariants as unfetched
+use Rattle.http_fetch.specs.declared.fetch.Unfetched.{Unfetched}
+use Rattle.http_fetch.specs.declared.fetch.Unfetched.TheVariants as unfetched
 use Rattle.http_wire.specs.Ask.{ask}
 use Rattle.http_wire.specs.declared.reply.Method.TheVariants as method
 use Rattle.index_server.specs.declared.fetch_index.FetchFault.{FetchFault}
@@ -41,6 +41,21 @@ RepliesOfIndex t (Err (fault.Status status)) = RefusesGet file_limit t (unfetche
 RepliesOfIndex t (Err (fault.Wire f)) = RefusesGet file_limit t (unfetched.Wire f)
 RepliesOfIndex t (Err fault.Failed) = ⊥
 RepliesOfIndex t (Err fault.Memory) = ⊥
+
+-- what the bytes of a body are read as
+abbrev pub ReadsFetched : List ℕ → Result Listing FetchFault → Type 0
+ReadsFetched b (Ok l) = IsIndexFile b l
+ReadsFetched b (Err (fault.Bad f)) = ((l : Listing) → IsIndexFile b l → ⊥) × (index_in b ≡ Err f)
+ReadsFetched b (Err fault.Memory) = Unit {0}
+ReadsFetched b (Err _) = ⊥
+
+-- why there is no index where there is no body
+abbrev pub fetch_fault : Unfetched → FetchFault
+fetch_fault unfetched.Absent = fault.Absent
+fetch_fault (unfetched.Status status) = fault.Status status
+fetch_fault (unfetched.Wire f) = fault.Wire f
+fetch_fault unfetched.Failed = fault.Failed
+fetch_fault unfetched.Memory = fault.Memory
 
 -- ---- the dialer
 

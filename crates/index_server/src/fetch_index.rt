@@ -1,6 +1,7 @@
 //! An index fetched from a server. Sizes are in bytes.
 
-ghost use Rattle.index_server.specs.Fetching.{Fetched};
+ghost use Rattle.std.specs.Prelude.{◌≡◌};
+ghost use Rattle.index_server.specs.Fetching.{Fetched, ReadsFetched, fetch_fault};
 
 use crate::index_file::index_of;
 use caibx_codec::index::Index;
@@ -8,8 +9,8 @@ use caibx_codec::reading::ReadFault;
 use caibx_fields::fault::IndexFault;
 use caibx_fields::format::FILE_LIMIT;
 use dsy_base::dial::Dial;
+use http_fetch::fetch::{Unfetched, fetch};
 use http_frames::fault::WireFault;
-use http_read::fetch::{Unfetched, fetch};
 use std::alloc::Global;
 
 /// Why no index was fetched.
@@ -29,7 +30,9 @@ pub enum FetchFault {
 }
 
 // Why no index was fetched where its file wasn't.
-fn fault_of(unfetched: Unfetched) -> FetchFault {
+fn fetch_fault(unfetched: Unfetched) -> FetchFault
+    ensures { result ≡ fetch_fault unfetched }
+{
     match unfetched {
         Unfetched::Absent => FetchFault::Absent,
         Unfetched::Status(status) => FetchFault::Status(status),
@@ -40,7 +43,9 @@ fn fault_of(unfetched: Unfetched) -> FetchFault {
 }
 
 // The index whose file was fetched.
-fn read_fetched(alloc: Global, file: &[u8]) -> Result<Index, FetchFault> {
+fn read_fetched(alloc: Global, file: &[u8]) -> Result<Index, FetchFault>
+    ensures { ReadsFetched file.now result }
+{
     match index_of(alloc, file) {
         Ok(index) => Ok(index),
         Err(ReadFault::Bad(fault)) => Err(FetchFault::Bad(fault)),
@@ -61,6 +66,6 @@ pub fn fetch_index<D: Dial>(
 {
     match fetch(alloc, dial, host, port, path, FILE_LIMIT as usize) {
         Ok(file) => read_fetched(alloc, file.as_slice()),
-        Err(unfetched) => Err(fault_of(unfetched)),
+        Err(unfetched) => Err(fetch_fault(unfetched)),
     }
 }

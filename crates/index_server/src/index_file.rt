@@ -63,8 +63,10 @@ pub(crate) fn index_of(alloc: Global, bytes: &[u8]) -> Result<Index, ReadFault>
 {
     fault_stays();
     let mut reader = IndexReader::new(alloc);
-    reader.feed(bytes)?;
-    reader.finish()
+    match reader.feed(bytes) {
+        Ok(()) => reader.finish(),
+        Err(fault) => Err(fault),
+    }
 }
 
 /// Whether the bytes are the file of a valid index.
@@ -121,6 +123,9 @@ impl IndexFile {
         ensures place { F.place folder.new ≡ F.place folder.old }
     {
         let mut bytes = Vec::new(alloc);
+        if grow(&mut bytes).is_err() {
+            return Err(IoFault::Memory);
+        }
         match read_whole(folder, name, &mut bytes) {
             Ok(n) => {
                 bytes.truncate(n);

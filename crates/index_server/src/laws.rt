@@ -1,13 +1,18 @@
-//! Laws of connections to a server of indexes, for the crates above. Nothing is done: each function's contract is the
-//! law.
+//! Laws of connections to servers of indexes, for the crates above. Nothing is done: each contract is the law.
 
-ghost use Rattle.std.specs.Prelude.{◌≡◌, ℕ, ◌++◌, Bool, List, Some, true};
+ghost use Rattle.std.specs.Prelude.{◌≡◌, ℕ, ◌++◌, Bool, List, Result, Some, true};
+ghost use Rattle.caibx_codec.specs.Listing.{Listing};
 ghost use Rattle.dsy_base.specs.Counts.{Quiet};
 ghost use Rattle.dsy_base.specs.Links.{Traffic};
 ghost use Rattle.dsy_base.specs.Maps.{Map};
 ghost use Rattle.http_serve.specs.Turns.{Served};
 ghost use Rattle.index_server.specs.Answers.{IndexFolder};
+ghost use Rattle.index_server.specs.Fetching.{RepliesOfIndex};
 ghost use Rattle.index_server.specs.Talks.{IndexTalk, index_protocol};
+ghost use Rattle.index_server.specs.declared.fetch_index.FetchFault.{FetchFault};
+
+use caibx_codec::laws::one_index;
+use http_fetch::laws::reply_says_one_thing;
 
 /// Where the folder counts no fault, a connection that is served to its end is sent exactly the replies that the files
 /// give, and the files are those that its requests leave.
@@ -17,3 +22,11 @@ pub fn talks_are_exact()
         → (sent : List ℕ) × (left : Map (List ℕ)) × IndexTalk writable t.coming m sent left
         × (u.sent ≡ t.sent ++ sent) × (new.files ≡ Some left) }
 {}
+
+/// The reply to a GET says one thing of an index too: a connection that ended licenses one answer.
+pub fn fetch_says_one_thing()
+    ensures same { (t : Traffic) (r s : Result Listing FetchFault) → RepliesOfIndex t r → RepliesOfIndex t s → r ≡ s }
+{
+    one_index();
+    reply_says_one_thing();
+}

@@ -1,5 +1,5 @@
-//! Indexes of a folder over HTTP/1.1 (RFC 9112), for the side that answers: requests are answered one by one, and a
-//! connection is served to its end. Everything is counted in bytes.
+//! Indexes over HTTP/1.1 (RFC 9112). A server answers requests for those of a folder one by one, and serves a
+//! connection to its end. A client fetches one by one GET. Everything is counted in bytes.
 #![tactic(auto)]
 
 pub mod fetch_index;

@@ -1,11 +1,12 @@
 use Rattle.std.proofs.Common.{Bool}
-use Rattle.http_read.proofs.Given.{bad_weaker, has_status, is_unwanted}
+use Rattle.http_read.proofs.Given.{has_status, is_unwanted}
+use Rattle.http_read.proofs.Heads.{refused_by_head}
 use Rattle.http_read.specs.declared.exchange.Reply.{Reply}
 use Rattle.http_wire.specs.declared.reply.Method.TheVariants as method
 use Rattle.http_read.proofs.exchange.presence_in.Goals as goal
 
 pub returns-in-Err-clause-bad : goal.returns-in-Err-clause-bad
-returns-in-Err-clause-bad g c = bad_weaker Reply Bool _ _ c.in-Err.refused (λ reason is. is _) c.in-Err.ensures.bad
+returns-in-Err-clause-bad g c = refused_by_head Reply Bool _ 0 _ c.in-Err.refused c.in-Err.ensures.bad
 
 pub returns-then-status-eq200-clause-ok : goal.returns-then-status-eq200-clause-ok
 returns-then-status-eq200-clause-ok g c =

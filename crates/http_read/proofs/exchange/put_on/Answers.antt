@@ -7,7 +7,7 @@ use Rattle.http_read.proofs.exchange.put_on.Goals as goal
 pub returns-in_err-send-2-clause-sent : goal.returns-in_err-send-2-clause-sent
 returns-in_err-send-2-clause-sent g c =
     let first = c.in_ok-send.ensures.ok ∙ ap (λ a. option_map (sends a) (g.K.Link.state c.args.link.now).traffic) c.as_bytes.ensures.value in
-    sent_front c.args.ask.now c.args.b.now _ _ _ c.requires.fresh.sent first c.send-2.ensures.front
+    sent_front c.args.ask.now c.args.b.now _ _ _ c.requires.fresh.sent first c.send-2.ensures.sends
 
 pub returns-clause-sent : goal.returns-clause-sent
 returns-clause-sent g c =

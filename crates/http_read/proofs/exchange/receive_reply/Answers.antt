@@ -1,16 +1,16 @@
 use Rattle.std.proofs.Common.{sym, subst, ◌∙◌, Ok, Err}
 use Rattle.http_read.proofs.Heads.{counts_early, refused_early, refused_head, says_head}
 use Rattle.http_read.specs.Reads.{CountsReply, IfBad}
-use Rattle.http_read.specs.Refusals.{IsRefused}
+use Rattle.http_read.specs.Refusals.{IsRefusedByHead}
 use Rattle.http_read.specs.declared.exchange.Reply.{Reply}
 use Rattle.http_read.specs.declared.fault.Unanswered.{Unanswered}
-use Rattle.std.specs.Prelude.{IfSome, ℕ}
+use Rattle.std.specs.Prelude.{IfSome}
 use Rattle.http_read.proofs.exchange.receive_reply.Goals as goal
 
 pub returns-in-Err-clause-bad : goal.returns-in-Err-clause-bad
 returns-in-Err-clause-bad g c =
     let P : Unanswered → Type 0 = λ u. IfBad {A = Reply} (Err u)
-    (λ reason. (room : ℕ) → IfSome (g.K.Link.state c.receive.new.link).traffic (λ t. IsRefused c.args.method room t reason)) in
+    (λ reason. IfSome (g.K.Link.state c.receive.new.link).traffic (λ t. IsRefusedByHead c.args.method t reason)) in
     subst P (sym c.unanswered.ensures) (refused_early Reply c.args.method c.in-Err.unread _ c.in-Err.ensures.absent)
 
 pub returns-in-Err-clause-faults : goal.returns-in-Err-clause-faults

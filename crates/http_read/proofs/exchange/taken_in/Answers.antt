@@ -1,6 +1,7 @@
 use Rattle.std.proofs.Common.{ℕ, ◌<◌, ◌≤◌, refl}
 use Rattle.dsy_base.specs.Links.{Traffic}
-use Rattle.http_read.proofs.Given.{bad_weaker, has_status, is_unwanted}
+use Rattle.http_read.proofs.Given.{has_status, is_unwanted}
+use Rattle.http_read.proofs.Heads.{refused_by_head}
 use Rattle.http_read.proofs.Streams.{weaker}
 use Rattle.http_read.specs.Replies.{SaysStatus}
 use Rattle.http_read.specs.declared.exchange.Reply.{Reply}
@@ -8,7 +9,7 @@ use Rattle.http_wire.specs.declared.reply.Method.TheVariants as method
 use Rattle.http_read.proofs.exchange.taken_in.Goals as goal
 
 pub returns-in-Err-clause-bad : goal.returns-in-Err-clause-bad
-returns-in-Err-clause-bad g c = bad_weaker Reply (Unit {0}) _ _ c.in-Err.refused (λ reason is. is _) c.in-Err.ensures.bad
+returns-in-Err-clause-bad g c = refused_by_head Reply (Unit {0}) _ 0 _ c.in-Err.refused c.in-Err.ensures.bad
 
 pub returns-then-taken-clause-ok : goal.returns-then-taken-clause-ok
 returns-then-taken-clause-ok g c =

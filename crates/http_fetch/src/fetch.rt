@@ -1,25 +1,26 @@
 //! One GET, and the body of its reply. Sizes are in bytes.
 
-ghost use Rattle.std.specs.Prelude.{◌≡◌, ◌≢◌, ◌≤◌, ◌<◌, ◌⊎◌, [], length, take, false, true, Err, IfErr, IfOk, IfSome, None, Ok};
+ghost use Rattle.std.specs.Prelude.{◌≡◌, ◌≤◌, ◌<◌, ◌⊎◌, [], length, take, false, true, Err, IfErr, IfOk, IfSome};
+ghost use Rattle.std.specs.Prelude.{None, Ok};
 ghost use Rattle.dsy_base.specs.Links.{IsFreshLink};
 ghost use Rattle.http_frames.specs.HeadEnd.{head_limit};
 ghost use Rattle.http_read.specs.Asks.{IsFront};
-ghost use Rattle.http_read.specs.Fetching.{CountsFetch, GivesBody, OnRefusal, RefusesGet, room_of_body, tells_more};
-ghost use Rattle.http_read.specs.Fetching.{unfetched_of};
+ghost use Rattle.http_fetch.specs.Fetching.{CountsFetch, GivesBody, OnRefusal, RefusesGet, room_of_body, tells_more};
+ghost use Rattle.http_fetch.specs.Fetching.{unfetched_of};
 ghost use Rattle.http_read.specs.Reads.{Receives};
 ghost use Rattle.http_read.specs.Remotes.{AddsOne};
 ghost use Rattle.http_read.specs.Replies.{SaysHead, SaysStatus};
 ghost use Rattle.http_wire.specs.Ask.{ask};
 
-use crate::body::read_body;
-use crate::exchange::{Reply, reply_to_get, send, unanswered};
-use crate::fault::{BadReply, Unanswered};
 use dsy_base::dial::Dial;
 use dsy_base::fault::IoFault;
 use dsy_base::link::Link;
 use http_frames::body::BodyKind;
 use http_frames::fault::WireFault;
 use http_frames::head::HEAD_LIMIT;
+use http_read::body::read_body;
+use http_read::exchange::{Reply, reply_to_get, send, unanswered};
+use http_read::fault::{BadReply, Unanswered};
 use http_wire::ask::ask_text;
 use http_wire::reply::Method;
 use std::alloc::Global;
@@ -39,7 +40,7 @@ pub enum Unfetched {
 }
 
 // What is answered where there is no answer.
-fn unfetched(refused: Unanswered) -> Unfetched
+fn unfetched_of(refused: Unanswered) -> Unfetched
     ensures { result ≡ unfetched_of refused }
 {
     match refused {
@@ -61,17 +62,6 @@ fn room_of_body(kind: BodyKind, most: usize) -> Option<usize>
         BodyKind::Length(n) if n > most as u64 => None,
         BodyKind::Length(n) => Some(n as usize),
         BodyKind::Chunked | BodyKind::ToEnd => Some(most),
-    }
-}
-
-// So much room.
-fn room(alloc: Global, size: usize) -> Result<Vec<u8>, Unfetched>
-    ensures ok { IfOk result (λ v. length v.items ≡ size) }
-    ensures only { IfErr result (λ why. why ≡ Unfetched.Memory) }
-{
-    match vec![in alloc; 0u8; size] {
-        Ok(room) => Ok(room),
-        Err(_) => Err(Unfetched::Memory),
     }
 }
 
@@ -101,22 +91,20 @@ fn body_behind<K: Link>(
     let Some(size) = room_of_body(reply.head.body, most) else {
         return Err(Unfetched::Wire(WireFault::BodyTooLong));
     };
-    let mut out = room(alloc, size)?;
+    let Ok(mut out) = vec![in alloc; 0u8; size] else {
+        return Err(Unfetched::Memory);
+    };
     match read_body(link, reply.head.body, reply.received, buffer, &mut out) {
         Ok(n) => {
             out.truncate(n);
             Ok(out)
         }
-        Err(unread) => Err(unfetched(unanswered(unread))),
+        Err(unread) => Err(unfetched_of(unanswered(unread))),
     }
 }
 
 // Receives the reply to a GET, and its body. There is no room taken for the body before its head has come.
-fn body_on<K: Link>(
-    alloc: Global,
-    link: &mut K,
-    most: usize,
-) -> Result<Vec<u8>, Unfetched>
+fn body_on<K: Link>(alloc: Global, link: &mut K, most: usize) -> Result<Vec<u8>, Unfetched>
     requires fresh { IfSome (K.state link.old).traffic (λ t. t.received ≡ []) }
     ensures ok { IfOk result (λ v. IfSome (K.state link.new).traffic (λ t. GivesBody most t v.items)) }
     ensures err { IfErr result (λ why. OnRefusal why (IfSome (K.state link.new).traffic
@@ -130,7 +118,7 @@ fn body_on<K: Link>(
     match reply_to_get(link, &mut buffer) {
         Ok(Some(reply)) => body_behind(alloc, link, reply, &mut buffer, most),
         Ok(None) => Err(Unfetched::Absent),
-        Err(refused) => Err(unfetched(refused)),
+        Err(refused) => Err(unfetched_of(refused)),
     }
 }
 
@@ -153,7 +141,7 @@ fn fetch_on<K: Link>(
 {
     match send(link, ask.as_bytes()) {
         Ok(()) => body_on(alloc, link, most),
-        Err(refused) => Err(unfetched(refused)),
+        Err(refused) => Err(unfetched_of(refused)),
     }
 }
 

@@ -9,13 +9,11 @@ use Rattle.http_frames.specs.declared.fault.WireFault.TheVariants as faults
 use Rattle.http_read.specs.Reads.{IsFault}
 use Rattle.http_read.specs.Refusals.{HasBadHead, HasNoHead, IsUnwanted}
 use Rattle.http_read.specs.Replies.{SaysBody, SaysHead, SaysStatus}
-use Rattle.http_read.specs.declared.fault.BadReply.{BadReply}
 use Rattle.http_read.specs.declared.fault.BadReply.TheVariants as bad
 use Rattle.http_read.specs.declared.fault.Unanswered.{Unanswered}
 use Rattle.http_read.specs.declared.fault.Unanswered.TheVariants as unanswered
-use Rattle.http_read.specs.declared.fetch.Unfetched.{Unfetched}
-use Rattle.http_read.specs.declared.fetch.Unfetched.TheVariants as unfetched
-use Rattle.http_wire.specs.declared.reply.Method.{Method}
+use Rattle.http_fetch.specs.declared.fetch.Unfetched.{Unfetched}
+use Rattle.http_fetch.specs.declared.fetch.Unfetched.TheVariants as unfetched
 use Rattle.http_wire.specs.declared.reply.Method.TheVariants as method
 
 -- ---- the body
@@ -47,11 +45,6 @@ pub record HasNoBody (most : ℕ) (t : Traffic) (f : WireFault) : Type 0 where
       ⊎ ((tells_more most body ≡ false) × IsFault body size most t f)
 
 -- ---- the reply
-
--- no head came, or one that isn't taken
-abbrev pub IsRefusedByHead : Method → Traffic → BadReply → Type 0
-IsRefusedByHead m t (bad.Status status) = SaysStatus m t status × IsUnwanted m status
-IsRefusedByHead m t (bad.Wire f) = HasNoHead t f ⊎ HasBadHead m t f
 
 -- the reply to a GET gives no body of at most so many bytes, for this reason
 abbrev pub RefusesGet : ℕ → Traffic → Unfetched → Type 0
