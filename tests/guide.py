@@ -26,6 +26,7 @@ from checks import Cases, expect, expect_equal, needs_program
 GUIDE = os.path.join(program.TOP, 'docs', 'GUIDE.md')
 IMAGES = {'v1.img': 'seq 60000', 'v2.img': "seq 60000 | sed 's/^30000$/thirty thousand/'"}
 OURS, STATIC, NGINX, SERVED = 'localhost:8080', 'localhost:8000', 'images.example.com', '/srv/images'
+INDEXES = 'localhost:8081'
 BEHIND, NETWORK = '127.0.0.1:8080', '192.0.2.0/24'
 LOCATION = re.compile(r'^    location .*?^    }\n', re.DOTALL | re.MULTILINE)
 
@@ -58,6 +59,8 @@ class Reader:
     def do(self, kind, block):
         if kind == 'sh' and block.startswith('desync chunk-server'):
             self.serve_chunks(block)
+        elif kind == 'sh' and block.startswith('desync index-server'):
+            self.serve_indexes(block)
         elif kind == 'sh' and block.startswith('python3 -m http.server'):
             self.serve_files(block)
         elif kind == 'nginx':
@@ -72,6 +75,12 @@ class Reader:
         server = servers.ChunkServer(self.folder, *more.split(), store=store, host='localhost', address='localhost')
         self.ours.enter_context(server)
         self.hosts[OURS] = self.hosts[BEHIND] = f'localhost:{server.port}'
+
+    def serve_indexes(self, block):
+        folder, more = re.fullmatch(r'desync index-server -s (\S+) -l localhost:8081(.*)\n', block).groups()
+        server = servers.IndexServer(self.folder, *more.split(), store=folder, host='localhost', address='localhost')
+        self.held.enter_context(server)
+        self.hosts[INDEXES] = f'localhost:{server.port}'
 
     def serve_files(self, block):
         folder = re.search(r'--directory (\S+) 8000\n', block)[1]
@@ -144,7 +153,7 @@ class Reader:
                 expect_equal(replies.to_the_end(peer), replies.Wanted(404, closes=True).bytes, 'the reply beside them')
 
     def type(self, block):
-        for tool, word, there in (('casync', 'casync ', shutil.which('casync')),
+        for tool, word, there in (('casync', 'casync ', shutil.which('casync')), ('curl', 'curl ', shutil.which('curl')),
                                   ('nginx', NGINX, servers.nginx_program()),
                                   ('openssl', 'openssl ', shutil.which('openssl'))):
             if word in block and not there:

@@ -1,7 +1,7 @@
 """Servers of chunks on the loopback interface, each of which ends with its `with`.
 
 A chunk's path is a prefix, the first four digits of its id, and all 64. `Server` answers each connection by a function
-of the request's bytes; `static` and `nginx` serve a folder as files; `chunk_server` is ours.
+of the request's bytes; `static` and `nginx` serve a folder as files; `ChunkServer` and `IndexServer` are ours.
 """
 
 import contextlib
@@ -251,6 +251,8 @@ class ChunkServer:
     caller's environment where none is given, and may open so many files at once, if that is said. `lower` is called
     before it begins."""
 
+    command = 'chunk-server'
+
     def __init__(self, folder, *words, store='st', host='127.0.0.1', address='127.0.0.1', port=None, environment=None,
                  files=None, lower=None):
         self.folder = folder
@@ -258,7 +260,7 @@ class ChunkServer:
         self.lower = lower or files and (lambda: resource.setrlimit(resource.RLIMIT_NOFILE, (files, files)))
         self.address = address
         self.port = port or free_port()
-        self.words = ['chunk-server', '-s', store, '-l', f'{host}:{self.port}', *words]
+        self.words = [self.command, '-s', store, '-l', f'{host}:{self.port}', *words]
         self.process = None
 
     def url(self, path=''):
@@ -284,6 +286,12 @@ class ChunkServer:
         ended = program.ended(self.process)
         if kind is None and (not runs or ended.out or ended.err):
             raise AssertionError(f'{self.words} {"ran" if runs else "had ended"}, and said {ended.out + ended.err!r}')
+
+
+class IndexServer(ChunkServer):
+    """`desync index-server`, in the same way."""
+
+    command = 'index-server'
 
 
 def _listens(port, address='127.0.0.1'):

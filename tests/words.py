@@ -55,9 +55,10 @@ FOLDERS_ALONE = ('verify', 'prune', 'chunk-server', 'index-server')
 INDEXES = {'make': 1, 'extract': 1, 'cat': 1, 'verify-index': 1, 'chop': 1, 'cache': 64, 'list-chunks': 1, 'info': 1,
            'prune': 64}
 
-# Names with `://` that no index has.
+# Names with `://` that no index has, and those that one may have.
 BAD_INDEXES = ['http://h', 'http://h/', 'https://h/a.caibx', 'http://u@h/a.caibx', 'http://u:p@h/a.caibx',
                'http://h/a.caibx?q', 'http://h/a.caibx?', 'http://h/a.caibx#f', 'http://h:x/a.caibx', 'a://', '://']
+INDEX_URLS = ['http://h/a.caibx', 'http://localhost:8080/a/b/', 'http://h/|']
 
 # Locations, and what each is.
 LOCATIONS = {'st': 'folder', 'a b': 'folder', '-s': 'folder', '--': 'folder', 'http:/h': 'folder', ':': 'folder',
@@ -115,10 +116,17 @@ def why_not_operand(command, before, most, word):
         return 'Operands'
     if command == 'demo' and not number(word, 0, ((1 << 64) - 1, 1 << 29)[before]):
         return 'BadNumber'
-    if before < INDEXES.get(command, 0) and '://' in word:
-        expect(word in BAD_INDEXES or command == 'make', f'{word} isn\'t on the list')
+    if before < INDEXES.get(command, 0) and '://' in word and not (command != 'make' and is_index_url(word)):
         return 'BadLocation'
     return None
+
+
+def is_index_url(word):
+    """Whether the word, which has `://`, is the URL of an index. A location that is on neither list of names is bad, or
+    has no path."""
+    expect(word in BAD_INDEXES + INDEX_URLS or location(word) == 'bad' or word in ('http://localhost', 'http://127.0.0.1/'),
+           f'{word} isn\'t on the list')
+    return word in INDEX_URLS
 
 
 def option_of(command, word):
@@ -224,6 +232,9 @@ def agrees(words, folder):
     """Runs the words, and compares the line with the second reading; says why they aren't taken, or `taken`."""
     text, why = refusal_of(words)
     if words[:1] == ['demo'] and why == 'taken' and LARGE in words:
+        return why
+    # A server would be asked for an index.
+    if words[:1] != ['make'] and why == 'taken' and any(url in words for url in INDEX_URLS):
         return why
     ended = program.run(words, folder)
     if words[1:] == ['--help'] and words[0] in COMMANDS:

@@ -6,5 +6,5 @@ pub mod chunk_file;
 pub mod laws;
 pub mod serve;
 pub mod shelf;
-mod shelf_service;
+pub mod shelf_service;
 pub mod state;

@@ -11,7 +11,7 @@ use std::alloc::Global;
 use std::marker::PhantomData;
 
 /// How requests for chunks are read, and answered by a shelf. One that is refused isn't shown to it.
-pub(crate) struct ShelfService<H: Shelf> {
+pub struct ShelfService<H: Shelf> {
     shelf: PhantomData<H>,
 }
 

@@ -4,7 +4,7 @@ use crate::notation::parted;
 use crate::running::{both, run, surely};
 use crate::setting::{
     client, digest, failing_files, failing_listener, failing_reads, failing_store, failing_writes,
-    file, index, server, store,
+    file, index, more, more_file, server, store,
 };
 use crate::showing::{
     chunk_shown, digits_shown, file_shown, names_shown, print_found, replies_shown, sameness_shown,
@@ -28,6 +28,8 @@ fn set_up_or_show(rt: &impl Print, world: &mut World, line: &str) -> Result<(), 
         "failing-store" => failing_store(world, rest),
         "server" => server(world, rest),
         "client" => client(world, rest),
+        "more" => more(world, rest),
+        "more-file" => more_file(world, rest),
         "failing-listener" => failing_listener(world, rest),
         "digest" => digest(world, rest),
         _ => print_found(rt, line, shown(world, word, rest)?),

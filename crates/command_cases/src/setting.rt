@@ -122,6 +122,27 @@ pub fn client(world: &mut World, text: &str) -> Result<(), Fail> {
     Ok(())
 }
 
+// Adds to what the last client sends.
+fn add_to_client(world: &mut World, bytes: &[u8]) -> Result<(), Fail> {
+    let mut sent = world.clients.pop().ok_or("no client")?;
+    sent.extend_from_slice(bytes)?;
+    world.clients.push(sent)?;
+    Ok(())
+}
+
+/// `more BYTES`
+pub fn more(world: &mut World, text: &str) -> Result<(), Fail> {
+    let bytes = bytes_of(world.alloc, text)?;
+    add_to_client(world, &bytes)
+}
+
+/// `more-file NAME`
+pub fn more_file(world: &mut World, name: &str) -> Result<(), Fail> {
+    let held = world.memory.files.file(name).ok_or("no file")?;
+    let bytes = Vec::from_slice(world.alloc, held)?;
+    add_to_client(world, &bytes)
+}
+
 /// `failing-listener CALL..`
 pub fn failing_listener(world: &mut World, calls: &str) -> Result<(), Fail> {
     world.listener_fails = calls_of(world.alloc, calls)?;

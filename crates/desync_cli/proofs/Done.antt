@@ -8,7 +8,7 @@ use Rattle.command_words.specs.declared.command.Command.{Command}
 use Rattle.command_words.specs.declared.command.Command.TheVariants as commands
 use Rattle.desync_cli.specs.Commands.{Achieves, DesyncEnds, CommandEnds, command_of}
 use Rattle.extract_command.specs.Extract.{never_fail}
-use Rattle.store_commands.specs.Serving.{Heard}
+use Rattle.server_commands.specs.Serving.{Heard}
 use Rattle.desync_cli.proofs.Fair.{answered, begun, if_some}
 use Rattle.desync_cli.proofs.Cached.{cached}
 use Rattle.desync_cli.proofs.Chopped.{chopped}

@@ -15,7 +15,8 @@ use Rattle.desync_cli.proofs.ExactCache.{caches_so}
 use Rattle.desync_cli.proofs.ExactExtract.{extracts_so}
 use Rattle.desync_cli.proofs.ExactFolders.{prunes_so, verifies_so}
 use Rattle.desync_cli.proofs.ExactImages.{chops_so, makes_so}
-use Rattle.desync_cli.proofs.ExactServing.{serves_so}
+use Rattle.desync_cli.proofs.ExactRanges.{puts_so}
+use Rattle.desync_cli.proofs.ExactServing.{chunk_server_so, index_server_so}
 use Rattle.desync_cli.proofs.ExactTexts.{demonstrates_so, lists_so, prints_so, tells_so, verifies_index_so}
 use Rattle.desync_cli.proofs.Fair.{begun, if_any, if_some}
 use Rattle.desync_cli.proofs.Readings.{EndsSo, IsQuiet, at_first}
@@ -23,7 +24,7 @@ use Rattle.desync_cli.specs.Commands.{CommandEnds, DesyncEnds, NoCommand, comman
 use Rattle.desync_cli.specs.Contents.{Contents}
 use Rattle.desync_cli.specs.Exact.{EndingOf, IsExact, IsFaultless}
 use Rattle.extract_command.specs.Extract.{never_fail}
-use Rattle.store_commands.specs.Serving.{Heard}
+use Rattle.server_commands.specs.Serving.{Heard}
 use Rattle.std.proofs.lemmas.Option.{none-some}
 
 quiet : {p : Parts} {w v : World} {x : Contents} → IsFaultless p w v x → IsQuiet w v
@@ -37,6 +38,7 @@ module _ (sure : Bool) (k : Heard) (x : Contents) (w v : World) where
   command_exact (commands.Cache stores cache workers indexes) f = caches_so x w v (quiet f) stores cache workers indexes f.folders f.tells
   command_exact (commands.ListChunks index) f = lists_so x w v (quiet f) index f.tells
   command_exact (commands.Extract stores seeds cache in_place workers index target) f = extracts_so x w v (quiet f) (never_fail sure k.never_fails) stores f.folders cache seeds in_place index target f.tells
+  command_exact (commands.Cat stores offset length index) f = puts_so x w v (quiet f) stores offset length index f.folders f.tells
   command_exact (commands.Info stores index) f = tells_so x w v (quiet f) stores index f.folders f.tells
   command_exact (commands.Verify store repair workers digest) f = verifies_so x w v (quiet f) digest store repair f.tells
   command_exact (commands.Prune store indexes) f = prunes_so x w v (quiet f) store indexes f.tells
@@ -44,7 +46,8 @@ module _ (sure : Bool) (k : Heard) (x : Contents) (w v : World) where
   command_exact commands.Help f = prints_so x w v (quiet f) (help_text topics.All) w (at_first x w f.tells)
   command_exact commands.Version f = prints_so x w v (quiet f) (help_text topics.Version) w (at_first x w f.tells)
   command_exact (commands.HelpOn kind) f = prints_so x w v (quiet f) (help_text (topics.Command kind)) w (at_first x w f.tells)
-  command_exact (commands.ChunkServer store host port writable workers digest) f = serves_so x w v (quiet f) k f.listener digest store writable workers f.tells
+  command_exact (commands.ChunkServer store host port writable workers digest) f = chunk_server_so x w v (quiet f) k f.listener digest store writable workers f.tells
+  command_exact (commands.IndexServer store host port writable) f = index_server_so x w v (quiet f) k f.listener store writable f.tells
 
 -- words that are no command, or for which there was no memory
 words_exact : (words : List (List ℕ)) (k : Heard) (w v : World) (o : Outcome) → NoCommand words o → IfSome (command_of words) (λ c. (x : Contents) → IsFaultless (parts k c) w v x → IsExact k c x o v)

@@ -24,6 +24,8 @@ use Rattle.command_steps.proofs.Dialed.{dials_same}
 use Rattle.command_steps.proofs.Fair.{IsFair, IsLeft, IsRefusal, IsStep, Unread, adds, behind, between, bound, consults, cache_step, fair_longer, image_step, index_step, indexes_step, left_twice, on_disk, on_out, on_sources, printed_step, pure_step, reads, round, source_failed, source_taken_step, sources_fair, sources_step, taken_step, whole, writes, unread_fair}
 use Rattle.command_steps.proofs.Numbers.{rose_not_quiet}
 use Rattle.cache_command.specs.Caching.{EndsFilling, FillTells, IndexesFilled, NotFilled, of_command, outcome_of_fill}
+use Rattle.cat_command.specs.Cat.{RangePut, range_size}
+use Rattle.cat_command.specs.Putting.{chunk_at}
 use Rattle.image_commands.specs.Chop.{ImageChopped}
 use Rattle.desync_cli.specs.Commands.{DesyncEnds, CommandEnds, NoCommand, TellsRefusal, WordsRead, command_of, parts, refusal_in, usage_refusal, command_said, spares}
 use Rattle.print_commands.specs.Demo.{Rehearsed}
@@ -31,7 +33,7 @@ use Rattle.extract_command.proofs.Wrote.{wrote_on}
 use Rattle.extract_command.specs.Extract.{CacheFilled, Clearing, FillsCache, ImageMade, Into, NeverFail, OutMade, Renamed, Seeds, beside, in_place, never_fail, temporary_out}
 use Rattle.store_commands.specs.Info.{IdsCounted, NotAsked}
 use Rattle.image_commands.specs.Make.{ImageStored, IndexWritten, SizesJudged, WritesStore}
-use Rattle.store_commands.specs.Serving.{FolderServed, Heard, TakenUnheard}
+use Rattle.server_commands.specs.Serving.{FolderServed, FolderServing, Heard, TakenUnheard}
 use Rattle.store_commands.specs.VerifyIndex.{ImageChecked}
 use Rattle.verify_tool.specs.Pruning.{is_listed_in}
 use Rattle.store_commands.specs.Prune.{StorePruned}
@@ -105,6 +107,24 @@ assembled_step sure o x p cache l z i is = record { fair = fair; leaves = λ w v
   fair w v (ends.Damaged k id store shows) h = (tt, tt)
   fair w v (ends.StoreFault k) h = (tt, source_failed (Lacks (chunk_of (kind_of l) h.0.0.1 (size_of l h.0.0.0))) (behind p w) (behind p v) k x.stores h.0.0.4)
   fair w v ends.TargetFault h = (tt, subst (λ q. FileRose w.disk v.disk q) is h.0.0)
+  fair w v ends.Memory h = (tt, tt)
+  fair w v other h = absurd h.0
+
+-- ---- the steps of `cat`
+
+put_step : (x : Parts) (l : Listing) (at n : ℕ) → IsStep whole (record { files = true; folders = true; dial = are_folders x.stores; out = false }) x (RangePut x.stores l at n)
+put_step x l at n = record { fair = fair; leaves = λ w v r h. record {
+  keeps = record { files = λ t. h.1.0.disk.files; folders = λ t. h.1.0.disk.folders; dial = h.1.1; out = λ t. absurd (cc) };
+  files = h.1.0.disk.counts;
+  folders = h.1.0.disk.folder_counts;
+  dial = h.1.0.dial;
+  out = h.3;
+} } where
+  fair : (w v : World) (o : Outcome) → RangePut x.stores l at n w (Err o) v → IsFair x o w v
+  fair w v (ends.Missing k id) h = (tt, tt)
+  fair w v (ends.Damaged k id store shows) h = (tt, tt)
+  fair w v (ends.StoreFault s) h = (tt, source_failed (Lacks (chunk_at (kind_of l) l h.0.0)) w v s x.stores h.0.2.said)
+  fair w v ends.OutFault h = (tt, h.0.0)
   fair w v ends.Memory h = (tt, tt)
   fair w v other h = absurd h.0
 
@@ -263,7 +283,7 @@ pruned_step f n o x p keeps q held same = record { fair = fair; leaves = leaves 
   leaves d e (Ok u) h = adds p h.1
   leaves d e (Err r) h = adds p h.1
 
--- ---- the steps of `chunk-server`
+-- ---- the steps of servers
 
 unheard_step : (f n o : Bool) (x : Parts) (p : Unread) (h : Heard) (q : List ℕ) → IsStep (round p) (record { files = f; folders = false; dial = n; out = o }) x (TakenUnheard h q)
 unheard_step f n o x p h q = record { fair = λ d e r t. (taken_step f n o x p [] q).fair d e r t.0; leaves = leaves } where
@@ -271,15 +291,15 @@ unheard_step f n o x p h q = record { fair = λ d e r t. (taken_step f n o x p [
   leaves d e (Ok held) t = (taken_step f n o x p [] q).leaves d e (Ok held) t
   leaves d e (Err r) t = (taken_step f n o x p [] q).leaves d e (Err r) t.0
 
-served_step : (f n o : Bool) (x : Parts) (p : Unread) (kind : DigestKind) (in_turn : Bool) (h : Heard) (writable : Bool) (q : List ℕ) (held : Option (Map (List ℕ))) → x.listener ≡ (h.old.faults, h.new.faults)
-    → IsStep (round p) (record { files = f; folders = false; dial = n; out = o }) x (FolderServed kind in_turn h writable q held)
-served_step f n o x p kind in_turn h writable q held same = record { fair = fair; leaves = leaves } where
-  fair : (d e : Disk) (r : Outcome) → FolderServed kind in_turn h writable q held d (Err r) e → IsFair x r (round p d) (round p e)
+served_step : (f n o : Bool) (x : Parts) (p : Unread) (h : Heard) (q : List ℕ) (held : Option (Map (List ℕ))) (served short : FolderServing) → x.listener ≡ (h.old.faults, h.new.faults)
+    → IsStep (round p) (record { files = f; folders = false; dial = n; out = o }) x (FolderServed h q held served short)
+served_step f n o x p h q held served short same = record { fair = fair; leaves = leaves } where
+  fair : (d e : Disk) (r : Outcome) → FolderServed h q held served short d (Err r) e → IsFair x r (round p d) (round p e)
   fair d e ends.ListenFault t = (tt, subst (λ (y : ℕ × ℕ). Rose y.0 y.1) (sym same) t.0.0)
   fair d e ends.Memory t = (tt, tt)
   fair d e other t = absurd t.0
 
-  leaves : (d e : Disk) (r : Result Unit Outcome) → FolderServed kind in_turn h writable q held d r e → IsLeft (record { files = f; folders = false; dial = n; out = o }) (round p d) (round p e)
+  leaves : (d e : Disk) (r : Result Unit Outcome) → FolderServed h q held served short d r e → IsLeft (record { files = f; folders = false; dial = n; out = o }) (round p d) (round p e)
   leaves d e (Ok u) t = adds p t.1
   leaves d e (Err r) t = adds p t.1
 
@@ -301,6 +321,7 @@ command_step sure h (commands.Chop store workers index image) = bound (on_disk (
 command_step sure h (commands.Cache stores cache workers indexes) = bound (on_disk (λ p. sources_step _ _ p stores)) (λ u. bound (on_disk (λ p. cache_step _ _ p stores (Some cache))) (λ u. on_sources (λ p. filled_step _ _ (parts h (commands.Cache stores cache workers indexes)) p workers indexes)))
 command_step sure h (commands.ListChunks index) = bound (on_disk (λ p. index_step _ _ p index)) (λ l. on_out (λ d. printed_step _ _ _ _ d (text_of_chunks l)))
 command_step sure h (commands.Extract stores seeds cache in_place workers index target) = bound (on_disk (λ p. index_step _ _ p index)) (λ l. bound (on_disk (λ p. indexes_step _ _ p seeds)) (λ ls. bound (on_disk (λ p. sources_step _ _ p stores)) (λ u. bound (on_disk (λ p. cache_step _ _ p stores cache)) (λ u. out_step (never_fail sure h.never_fails) _ (parts h (commands.Extract stores seeds cache in_place workers index target)) cache l (record { images = map image_name seeds; listings = ls }) in_place target refl))))
+command_step sure h (commands.Cat stores offset length index) = bound (on_disk (λ p. index_step _ _ p index)) (λ l. bound (on_disk (λ p. sources_step _ _ p stores)) (λ u. put_step (parts h (commands.Cat stores offset length index)) l offset (range_size l offset length)))
 command_step sure h (commands.Info stores index) = bound (on_disk (λ p. index_step _ _ p index)) (λ l. bound (on_sources (λ p. counted_step _ _ p (λ t. t) l)) (λ n. on_out (λ d. printed_step _ _ _ _ d (text_of_info l n))))
 command_step sure h (commands.Verify store repair workers digest) = bound (on_disk (λ p. taken_step _ _ _ _ p [] store)) (λ held. verified_step _ _ digest store repair held refl)
 command_step sure h (commands.Prune store indexes) = bound (on_disk (λ p. indexes_step _ _ p indexes)) (λ ls. bound (on_disk (λ p. taken_step _ _ _ _ p [] store)) (λ held. on_disk (λ p. pruned_step _ _ _ _ p (is_listed_in ls) store held refl)))
@@ -308,7 +329,8 @@ command_step sure h (commands.Demo number size workers digest) = bound (pure_ste
 command_step sure h commands.Help = on_out (λ d. printed_step _ _ _ _ d (help_text topics.All))
 command_step sure h commands.Version = on_out (λ d. printed_step _ _ _ _ d (help_text topics.Version))
 command_step sure h (commands.HelpOn kind) = on_out (λ d. printed_step _ _ _ _ d (help_text (topics.Command kind)))
-command_step sure h (commands.ChunkServer store host port writable workers digest) = bound (on_disk (λ p. unheard_step _ _ _ _ p h store)) (λ held. on_disk (λ p. served_step _ _ _ _ p digest (workers == 1) h writable store held refl))
+command_step sure h (commands.ChunkServer store host port writable workers digest) = bound (on_disk (λ p. unheard_step _ _ _ _ p h store)) (λ held. on_disk (λ p. served_step _ _ _ _ p h store held _ _ refl))
+command_step sure h (commands.IndexServer store host port writable) = bound (on_disk (λ p. unheard_step _ _ _ _ p h store)) (λ held. on_disk (λ p. served_step _ _ _ _ p h store held _ _ refl))
 
 -- a command that listens is none that doesn't
 pub none_such : {A : Type 0} → true ≡ false → A
@@ -401,6 +423,7 @@ words_quiet words other h = absurd h
 -- a listener that isn't used hasn't failed
 quiet_listener : (k : Heard) (c : Command) → Quiet k.old.faults k.new.faults → Quiet (parts k c).listener.0 (parts k c).listener.1
 quiet_listener k (commands.ChunkServer store host port writable workers digest) h = h
+quiet_listener k (commands.IndexServer store host port writable) h = h
 quiet_listener k other h = record { same = omega arith; below = omega arith }
 
 pub nothing_failed : (sure : Bool) (k : Heard) (words : List (List ℕ)) (w v : World) (r : Result Unit Outcome) → DesyncEnds sure k words w r v → NoFault w v → Quiet k.old.faults k.new.faults → IfSome (command_of words) (λ c. All (RepliesTaken w v) (parts k c).stores) → NothingFailed (outcome_of r)

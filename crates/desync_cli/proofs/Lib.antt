@@ -7,6 +7,7 @@ pub mod ExactCache
 pub mod ExactExtract
 pub mod ExactFolders
 pub mod ExactImages
+pub mod ExactRanges
 pub mod ExactServing
 pub mod ExactTexts
 pub mod Extracted

@@ -25,10 +25,11 @@ use Rattle.print_commands.specs.Demo.{Rehearsed}
 use Rattle.extract_command.specs.Extract.{Clearing, ImageMade, Into, NeverFail, NotRenamed, OutMade, Renamed, Seeds, beside, in_place, temporary_out}
 use Rattle.image_commands.specs.Make.{ImageStored, IndexWritten, NotWritten, SizesJudged}
 use Rattle.store_commands.specs.VerifyIndex.{ImageChecked}
+use Rattle.cat_command.specs.Cat.{RangePut}
 use Rattle.cache_command.specs.Caching.{IndexesFilled, NotFilled, Evidence, outcome_of_fill}
 use Rattle.store_commands.specs.Info.{IdsCounted, NotAsked}
 use Rattle.store_commands.specs.Prune.{StorePruned}
-use Rattle.store_commands.specs.Serving.{FolderServed, Heard, TakenUnheard}
+use Rattle.server_commands.specs.Serving.{FolderServed, FolderServing, Heard, TakenUnheard}
 use Rattle.store_commands.specs.Verify.{StoreVerified}
 use Rattle.cache_fill.specs.declared.fill.FillFault.{FillFault}
 use Rattle.cache_fill.specs.declared.fill.FillFault.TheVariants as fills
@@ -214,6 +215,17 @@ module _ (n : ℕ) where
   pruned_tells keeps q held d e ends.Memory h = omega arith
   pruned_tells keeps q held d e other h = absurd h.0
 
+  range_tells : (stores : List Location) (l : Listing) (at m : ℕ) → Tells n (RangePut stores l at m)
+  range_tells stores l at m w v (ends.Missing k id) h = omega arith
+  range_tells stores l at m w v (ends.Damaged k id s shows) h = omega arith
+  range_tells stores l at m w v (ends.StoreFault s) h = omega arith
+  range_tells stores l at m w v ends.OutFault h = omega arith
+  range_tells stores l at m w v ends.Memory h = omega arith
+  range_tells stores l at m w v other h = absurd h.0
+
+  pub range_put : (stores : List Location) (l : Listing) (at m : ℕ) → Shorts n (RangePut stores l at m)
+  range_put stores l at m = record { short = range_tells stores l at m }
+
   pub pruned : (keeps : List ℕ → Bool) (q : List ℕ) (held : Option (Map (List ℕ))) → Shorts n (StorePruned keeps q held)
   pruned keeps q held = record { short = pruned_tells keeps q held }
 
@@ -227,13 +239,13 @@ module _ (n : ℕ) where
   pub verified : (kind : DigestKind) (q : List ℕ) (repair : Bool) (held : Option (Map (List ℕ))) → Shorts n (StoreVerified kind q repair held)
   verified kind q repair held = record { short = verified_tells kind q repair held }
 
-  served_tells : (kind : DigestKind) (in_turn : Bool) (h : Heard) (writable : Bool) (q : List ℕ) (held : Option (Map (List ℕ))) → Tells n (FolderServed kind in_turn h writable q held)
-  served_tells kind in_turn h writable q held d e ends.ListenFault t = omega arith
-  served_tells kind in_turn h writable q held d e ends.Memory t = omega arith
-  served_tells kind in_turn h writable q held d e other t = absurd t.0
+  served_tells : (h : Heard) (q : List ℕ) (held : Option (Map (List ℕ))) (served short : FolderServing) → Tells n (FolderServed h q held served short)
+  served_tells h q held served short d e ends.ListenFault t = omega arith
+  served_tells h q held served short d e ends.Memory t = omega arith
+  served_tells h q held served short d e other t = absurd t.0
 
-  pub served : (kind : DigestKind) (in_turn : Bool) (h : Heard) (writable : Bool) (q : List ℕ) (held : Option (Map (List ℕ))) → Shorts n (FolderServed kind in_turn h writable q held)
-  served kind in_turn h writable q held = record { short = served_tells kind in_turn h writable q held }
+  pub served : (h : Heard) (q : List ℕ) (held : Option (Map (List ℕ))) (served short : FolderServing) → Shorts n (FolderServed h q held served short)
+  served h q held served short = record { short = served_tells h q held served short }
 
   written_tells : (q bytes : List ℕ) → length q ≤ n → Tells n (IndexWritten q bytes)
   written_tells q bytes le d e o h = not_written q le d e o h.0

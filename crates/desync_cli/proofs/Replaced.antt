@@ -15,7 +15,7 @@ use Rattle.command_steps.specs.Sources.{Storage, SourcesOpened, storage}
 use Rattle.command_worlds.specs.Worlds.{OnDisk, Reads, World, world}
 use Rattle.desync_cli.proofs.Fair.{begun, if_any, if_some}
 use Rattle.desync_cli.specs.Commands.{DesyncEnds, CommandEnds, LeavesBehind, command_of}
-use Rattle.store_commands.specs.Serving.{Heard}
+use Rattle.server_commands.specs.Serving.{Heard}
 use Rattle.extract_command.specs.Extract.{Assembled, Cleared, ExtractEnds, Into, KeepsIn, NeverFail, OutMade, Seeds, StopsSomewhere, beside, folder_of, never_fail, old_of, temporary_out}
 use Rattle.desync_cli.specs.Commands.{LeavesOut}
 use Rattle.dsy_base.proofs.Counts.{at_other}

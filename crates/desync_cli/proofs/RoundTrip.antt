@@ -14,7 +14,7 @@ use Rattle.desync_cli.specs.Commands.{Achieves}
 use Rattle.extract_command.specs.Extract.{IsExtracted}
 use Rattle.image_commands.specs.Make.{IsMade}
 use Rattle.desync_cli.specs.RoundTrip.{ComesBack, RoundTrip}
-use Rattle.store_commands.specs.Serving.{Heard}
+use Rattle.server_commands.specs.Serving.{Heard}
 use Rattle.dsy_base.specs.Disk.{Disk, Output}
 use Rattle.dsy_base.specs.Links.{DialState}
 use Rattle.dsy_base.specs.Maps.{Map}

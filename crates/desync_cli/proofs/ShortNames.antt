@@ -3,6 +3,7 @@
 use Rattle.std.proofs.Common.{◌≡◌, ℕ, zero, suc, ◌+◌, ◌≤◌, ◌<◌, ◌==◌, List, [], ◌∷◌, length, map, codes, Bool, true, false, if◌then◌else◌, Option, Some, None, Result, Ok, Err, subst, inl, inr, slice_index_or, arith}
 use Rattle.std.proofs.lemmas.List.{length-append}
 use Rattle.std.specs.List.{list_any}
+use Rattle.cat_command.specs.Cat.{range_size}
 use Rattle.command_line.specs.CommandLine.{command_by, command_line, command_by_roles as parsed, command_or_help, complete, is_alone, read_location}
 use Rattle.command_line.specs.Judging.{judged, missing_words}
 use Rattle.command_outcome.specs.ErrorLines.{name_in}
@@ -29,9 +30,9 @@ use Rattle.command_words.specs.declared.usage.UsageWhy.{UsageWhy}
 use Rattle.command_words.specs.declared.usage.WordsFault.{WordsFault}
 use Rattle.desync_cli.specs.Commands.{DesyncEnds, CommandEnds, NoCommand, command_said}
 use Rattle.desync_cli.proofs.Fair.{begun}
-use Rattle.desync_cli.proofs.Named.{AllShort, Shorts, bound, cache_opened, checked, chopped, counted, filled, image_opened, index_read, indexes_read, judged as sizes_judged, on_disk, on_out, on_sources, opened, out_made, printed, pruned, rehearsed, served, source_taken, stored, taken, unheard, verified, written}
+use Rattle.desync_cli.proofs.Named.{AllShort, Shorts, bound, cache_opened, checked, chopped, counted, filled, image_opened, index_read, indexes_read, judged as sizes_judged, on_disk, on_out, on_sources, opened, out_made, printed, pruned, range_put, rehearsed, served, source_taken, stored, taken, unheard, verified, written}
 use Rattle.extract_command.specs.Extract.{never_fail, temporary_out}
-use Rattle.store_commands.specs.Serving.{Heard}
+use Rattle.server_commands.specs.Serving.{Heard}
 
 -- the names that a command has
 abbrev named : Option (List ℕ) → List (List ℕ)
@@ -46,10 +47,12 @@ HasShort n (commands.Chop store workers index image) = (length (folder_name stor
 HasShort n (commands.Cache stores cache workers indexes) = AllShort n (map folder_name stores) × (length cache ≤ n) × AllShort n indexes
 HasShort n (commands.ListChunks index) = length index ≤ n
 HasShort n (commands.Extract stores seeds cache in_place workers index target) = AllShort n (map folder_name stores) × AllShort n seeds × AllShort n (named cache) × (length index ≤ n) × (length (temporary_out target) ≤ n) × (length target ≤ n)
+HasShort n (commands.Cat stores offset size index) = AllShort n (map folder_name stores) × (length index ≤ n)
 HasShort n (commands.Info stores index) = AllShort n (map folder_name stores) × (length index ≤ n)
 HasShort n (commands.Verify store repair workers digest) = length store ≤ n
 HasShort n (commands.Prune store indexes) = (length store ≤ n) × AllShort n indexes
 HasShort n (commands.ChunkServer store host port writable workers digest) = length store ≤ n
+HasShort n (commands.IndexServer store host port writable) = length store ≤ n
 HasShort n other = Unit {0}
 
 -- and so are those that its refusals tell
@@ -63,6 +66,7 @@ command_short n sure h (commands.Extract stores seeds cache in_place workers ind
   cached : (cache : Option (List ℕ)) → AllShort n (named cache) → AllShort n (elim cache [ None ↦ [] | Some q ↦ q ∷ [] ])
   cached None all = all
   cached (Some q) all = all
+command_short n sure h (commands.Cat stores offset size index) f = bound (on_disk (index_read n index f.1)) (λ l. bound (on_disk (opened n stores f.0)) (λ u. range_put n stores l offset (range_size l offset size)))
 command_short n sure h (commands.Info stores index) f = bound (on_disk (index_read n index f.1)) (λ l. bound (on_sources (counted n stores f.0 l)) (λ k. on_out (printed n _)))
 command_short n sure h (commands.Verify store repair workers digest) f = bound (on_disk (taken n store f)) (λ held. verified n digest store repair held)
 command_short n sure h (commands.Prune store indexes) f = bound (on_disk (indexes_read n indexes f.1)) (λ ls. bound (on_disk (taken n store f.0)) (λ held. on_disk (pruned n _ store held)))
@@ -70,7 +74,8 @@ command_short n sure h (commands.Demo number size workers digest) f = bound (reh
 command_short n sure h commands.Help f = on_out (printed n _)
 command_short n sure h commands.Version f = on_out (printed n _)
 command_short n sure h (commands.HelpOn kind) f = on_out (printed n _)
-command_short n sure h (commands.ChunkServer store host port writable workers digest) f = bound (on_disk (unheard n h store f)) (λ held. on_disk (served n digest (workers == 1) h writable store held))
+command_short n sure h (commands.ChunkServer store host port writable workers digest) f = bound (on_disk (unheard n h store f)) (λ held. on_disk (served n h store held _ _))
+command_short n sure h (commands.IndexServer store host port writable) f = bound (on_disk (unheard n h store f)) (λ held. on_disk (served n h store held _ _))
 
 -- ---- the words
 
@@ -102,7 +107,7 @@ module _ (k : ℕ) where
 
   url_short : (r : _) → ShortPlace (url_location r)
   url_short (Ok u) = either ShortPlace (is_plain_http u) (Ok (server_of u)) (Err no.Bad) (omega arith) (omega arith)
-  url_short (Err e) = either ShortPlace (is_out_of_room e) (Err no.Memory) (Err no.Bad) (omega arith) (omega arith)
+  url_short (Err e) = omega arith
 
   place_short : (w : List ℕ) → length w ≤ k → ShortPlace (location_of w)
   place_short w le = either ShortPlace (list_any (λ c. c == 124) w) (Err no.Bad) _ (omega arith) (either ShortPlace (contains_scheme w) _ (Ok (locations.Folder w)) (search url_short) le)
@@ -139,10 +144,12 @@ module _ (k : ℕ) where
     parsed_short kinds.Chop = (store_short, one role.Operand 0, one role.Operand 1)
     parsed_short kinds.Cache = (places_short _ (as_role (role.Value option.Store)), one (role.Value option.Cache) 0, longer _ (as_role role.Operand))
     parsed_short kinds.ListChunks = one role.Operand 0
+    parsed_short kinds.Cat = (places_short _ (as_role (role.Value option.Store)), one role.Operand 0)
     parsed_short kinds.Info = (places_short _ (as_role (role.Value option.Store)), one role.Operand 0)
     parsed_short kinds.Verify = one (role.Value option.Store) 0
     parsed_short kinds.Prune = (one (role.Value option.Store) 0, longer _ (as_role role.Operand))
     parsed_short kinds.ChunkServer = one (role.Value option.Store) 0
+    parsed_short kinds.IndexServer = one (role.Value option.Store) 0
     parsed_short kinds.Demo = tt
 
   completed : (m : Option UsageWhy) (place : ℕ) (c : Command) → HasShort (k + 11) c → Said (complete m place c)

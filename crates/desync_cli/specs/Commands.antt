@@ -20,10 +20,13 @@ use Rattle.extract_command.specs.Extract.{ExtractEnds, IsExtracted, never_fail, 
 use Rattle.image_commands.specs.Make.{IsMade, MakeEnds, StoreHas}
 use Rattle.store_commands.specs.VerifyIndex.{IsVerified, VerifyIndexEnds}
 use Rattle.cache_command.specs.Caching.{CacheEnds, IsCached}
+use Rattle.cat_command.specs.Cat.{CatEnds}
 use Rattle.store_commands.specs.Info.{InfoEnds}
 use Rattle.print_commands.specs.ListChunks.{ListChunksEnds}
 use Rattle.store_commands.specs.Prune.{IsPruned, PruneEnds}
-use Rattle.store_commands.specs.Serving.{ChunkServerEnds, Heard}
+use Rattle.server_commands.specs.ChunkServing.{ChunkServerEnds}
+use Rattle.server_commands.specs.IndexServing.{IndexServerEnds}
+use Rattle.server_commands.specs.Serving.{Heard}
 use Rattle.store_commands.specs.Verify.{IsVerifiedStore, VerifyEnds}
 use Rattle.command_indexes.specs.Places.{are_files, is_file}
 use Rattle.command_indexes.specs.Spelled.{Spells}
@@ -39,6 +42,7 @@ use Rattle.command_worlds.specs.Worlds.{OnOut, Step, World}
 -- whether it listens for connections
 abbrev pub listens : Command → Bool
 listens (commands.ChunkServer store host port writable workers digest) = true
+listens (commands.IndexServer store host port writable) = true
 listens other = false
 
 -- how each ends, from the world before it to the world after it, where this was heard
@@ -50,6 +54,7 @@ CommandEnds sure h (commands.Cache stores cache workers indexes) = CacheEnds sto
 CommandEnds sure h (commands.ListChunks index) = ListChunksEnds index
 CommandEnds sure h (commands.Extract stores seeds cache in_place workers index target) =
     ExtractEnds (never_fail sure h.never_fails) stores cache seeds in_place index target
+CommandEnds sure h (commands.Cat stores offset length index) = CatEnds stores offset length index
 CommandEnds sure h (commands.Info stores index) = InfoEnds stores index
 CommandEnds sure h (commands.Verify store repair workers digest) = VerifyEnds digest store repair
 CommandEnds sure h (commands.Prune store indexes) = PruneEnds store indexes
@@ -59,6 +64,7 @@ CommandEnds sure h commands.Version = OnOut (Printed (help_text topics.Version))
 CommandEnds sure h (commands.HelpOn kind) = OnOut (Printed (help_text (topics.Command kind)))
 CommandEnds sure h (commands.ChunkServer store host port writable workers digest) =
     ChunkServerEnds digest h store writable workers
+CommandEnds sure h (commands.IndexServer store host port writable) = IndexServerEnds h store writable
 
 -- what no outcome of it changes
 abbrev pub spares : Command → Spares
@@ -72,6 +78,8 @@ spares (commands.Cache stores cache workers indexes) = record
     { files = true; folders = false; dial = are_folders stores && are_files indexes; out = true }
 spares (commands.Extract stores seeds cache in_place workers index target) = record
     { files = false; folders = not (is_some cache); dial = are_folders stores && is_file index; out = true }
+spares (commands.Cat stores offset length index) = record
+    { files = true; folders = true; dial = are_folders stores && is_file index; out = false }
 spares (commands.ListChunks index) = record { files = true; folders = true; dial = is_file index; out = false }
 spares (commands.Info stores index) = record
     { files = true; folders = true; dial = are_folders stores && is_file index; out = false }
@@ -80,6 +88,8 @@ spares (commands.Verify store repair workers digest) = record
 spares (commands.Prune store indexes) = record
     { files = true; folders = false; dial = are_files indexes; out = true }
 spares (commands.ChunkServer store host port writable workers digest) = record
+    { files = true; folders = false; dial = true; out = true }
+spares (commands.IndexServer store host port writable) = record
     { files = true; folders = false; dial = true; out = true }
 spares other = record { files = true; folders = true; dial = true; out = false }
 
@@ -103,6 +113,8 @@ parts h (commands.Extract stores seeds cache in_place workers index target) = re
   cache = [];
   listener = unheard;
 }
+parts h (commands.Cat stores offset length index) = record
+    { image = []; indexes = index ∷ []; stores = stores; target = []; cache = []; listener = unheard }
 parts h (commands.Info stores index) = record
     { image = []; indexes = index ∷ []; stores = stores; target = []; cache = []; listener = unheard }
 parts h (commands.Verify store repair workers digest) = record
@@ -110,6 +122,8 @@ parts h (commands.Verify store repair workers digest) = record
 parts h (commands.Prune store indexes) = record
     { image = []; indexes = indexes; stores = locations.Folder store ∷ []; target = []; cache = []; listener = unheard }
 parts h (commands.ChunkServer store host port writable workers digest) = record
+    { image = []; indexes = []; stores = []; target = []; cache = []; listener = (h.old.faults, h.new.faults) }
+parts h (commands.IndexServer store host port writable) = record
     { image = []; indexes = []; stores = []; target = []; cache = []; listener = (h.old.faults, h.new.faults) }
 parts h other = record { image = []; indexes = []; stores = []; target = []; cache = []; listener = unheard }
 

@@ -9,8 +9,6 @@ use Rattle.cache_store.specs.Giving.{GiveOneSize, SomeGives}
 use Rattle.caibx_codec.specs.Listing.{Listing, count_of, id_of, image_length, kind_of, size_of}
 use Rattle.caibx_codec.specs.Right.{IsRight}
 use Rattle.caibx_codec.specs.Spelling.{file_of}
-use Rattle.chunk_server.specs.Requests.{AreRequests, Asked, IsOver}
-use Rattle.chunk_server.specs.Turns.{files_left, replies, turns_of}
 use Rattle.chunk_sources.specs.Caches.{IsListedAs}
 use Rattle.chunk_sources.specs.Losses.{chunk_of}
 use Rattle.chunk_store.specs.Folders.{chunks}
@@ -33,24 +31,34 @@ use Rattle.command_worlds.specs.Steps.{answer_of}
 use Rattle.command_worlds.specs.Worlds.{DiskQuiet, World}
 use Rattle.desync_cli.specs.AtHand.{into}
 use Rattle.desync_cli.specs.Contents.{Contents, Ending, HasContents, PrintsText, Unchanged, with_file, with_folder}
+use Rattle.desync_cli.specs.Contents.{with_text}
 use Rattle.desync_cli.specs.Contents.{◌>>=◌, folder_at, folders_at, image_at, index_at, indexes_at}
 use Rattle.dir_store.specs.Names.{is_stranger}
 use Rattle.dsy_base.specs.Counts.{Quiet}
 use Rattle.dsy_base.specs.Links.{LinkState, Traffic}
 use Rattle.dsy_base.specs.Maps.{Map, at_name}
 use Rattle.extract_command.specs.Extract.{AreFilled, HadFrom, Seeds, base_of, folder_of, temporary_out}
+use Rattle.http_serve.specs.Protocols.{Asked, Protocol}
+use Rattle.http_serve.specs.Requests.{AreRequests, IsOver}
+use Rattle.http_serve.specs.Turns.{files_left, replies, turns_of}
 use Rattle.image_check.specs.Checks.{IsFirstWrong}
 use Rattle.image_commands.specs.Make.{cut_sizes_of}
 use Rattle.image_demo.specs.Figures.{AreFigures, HasTwoPieces, text_of_figures}
 use Rattle.image_demo.specs.Images.{usual_sizes}
 use Rattle.image_demo.specs.declared.figures.Figures.{Figures}
+use Rattle.image_reader.specs.Covered.{IsCovered}
+use Rattle.image_reader.specs.Images.{IsRange, SomeGivesEntry, image_of_stores}
 use Rattle.image_store.specs.PutChunks.{HoldsAll, PutsFiles, Stands}
+use Rattle.index_server.specs.Talks.{index_protocol}
 use Rattle.locked_shelf.specs.Keepings.{KeepsOpening}
+use Rattle.server_commands.specs.ChunkServing.{chunk_protocol}
 use Rattle.store_chain.specs.Giving.{LacksAll}
 use Rattle.store_chain.specs.declared.refused.Refused.{Refused}
 use Rattle.store_chain.specs.declared.refused.Refused.TheVariants as refused
 use Rattle.cache_command.specs.Caching.{IsCached}
-use Rattle.store_commands.specs.Serving.{Heard}
+use Rattle.cat_command.specs.Cat.{range_size}
+use Rattle.cat_command.specs.Putting.{bytes_before}
+use Rattle.server_commands.specs.Serving.{Heard}
 use Rattle.store_commands.specs.Verify.{answer_of_left}
 use Rattle.verify_tool.specs.Counts.{held_count}
 use Rattle.cache_fill.specs.Filling.{IsGivenBy}
@@ -202,36 +210,41 @@ Extracts l z fs cs cache in_place out x o y =
 -- ---- connections
 
 -- one came as t and ended as u: its requests were answered in order by the files f, which became g
-pub record IsRepliedTo (kind : DigestKind) (writable : Bool) (t : Traffic) (u : LinkState) (f g : Map (List ℕ)) : Type 0
-  where
-    pub asked : List Asked
-    pub left : Option (List ℕ)
-    pub requests : AreRequests writable (Some t.coming) asked left
-    pub over : IsOver writable left
-    pub ended : Traffic
-    pub told : u.traffic ≡ Some ended
-    pub sent : ended.sent ≡ replies (turns_of kind f asked)
-    pub files : g ≡ files_left kind f asked
+pub record IsRepliedTo {R : Type 0} (p : Protocol R (Map (List ℕ))) (t : Traffic) (u : LinkState) (f g : Map (List ℕ))
+    : Type 0 where
+  pub asked : List (Asked R)
+  pub left : Option (List ℕ)
+  pub requests : AreRequests p.reading (Some t.coming) asked left
+  pub over : IsOver p.reading left
+  pub ended : Traffic
+  pub told : u.traffic ≡ Some ended
+  pub sent : ended.sent ≡ replies p.reading.closes (turns_of p.answering f asked)
+  pub files : g ≡ files_left p.answering f asked
 
 -- so did these, each answered by the files that the one before it left
-abbrev pub AreRepliedTo : DigestKind → Bool → List Traffic → List LinkState → Map (List ℕ) → Map (List ℕ) → Type 0
-AreRepliedTo kind writable [] [] f g = g ≡ f
-AreRepliedTo kind writable (t ∷ came) (u ∷ gone) f g =
-    (next : Map (List ℕ)) × IsRepliedTo kind writable t u f next × AreRepliedTo kind writable came gone next g
-AreRepliedTo kind writable came gone f g = ⊥
+abbrev pub AreRepliedTo
+    : {R : Type 0} → Protocol R (Map (List ℕ)) → List Traffic → List LinkState → Map (List ℕ) → Map (List ℕ) → Type 0
+AreRepliedTo p [] [] f g = g ≡ f
+AreRepliedTo p (t ∷ came) (u ∷ gone) f g =
+    (next : Map (List ℕ)) × IsRepliedTo p t u f next × AreRepliedTo p came gone next g
+AreRepliedTo p came gone f g = ⊥
 
--- the files f became g. With one worker, over a listener that tells, connections on which no call failed were answered
--- so; else each id holds what it held, or a right chunk
-abbrev pub IsServedTo : DigestKind → Bool → Heard → Bool → Map (List ℕ) → Option (Map (List ℕ)) → Type 0
-IsServedTo kind false h writable f g = KeepsOpening kind f g
-IsServedTo kind true h writable f g = IfSome h.old.coming (λ came. IfSome h.old.ended (λ done. (gone : List LinkState)
+-- the files f became g: over a listener that tells, connections on which no call failed were answered so
+abbrev pub IsAnsweredInTurn
+    : {R : Type 0} → Protocol R (Map (List ℕ)) → Heard → Map (List ℕ) → Option (Map (List ℕ)) → Type 0
+IsAnsweredInTurn p h f g = IfSome h.old.coming (λ came. IfSome h.old.ended (λ done. (gone : List LinkState)
     × (h.new.ended ≡ Some (done ++ gone)) × (All (λ u. u.faults ≡ 0) gone
-    → (now : Map (List ℕ)) × (g ≡ Some now) × AreRepliedTo kind writable came gone f now)))
+    → (now : Map (List ℕ)) × (g ≡ Some now) × AreRepliedTo p came gone f now)))
 
--- all connections that came were served
-abbrev pub Answers : DigestKind → Bool → Heard → Bool → List ℕ → Map (List ℕ) → Ending
-Answers kind in_turn h writable q f x o y = (o ≡ ends.Done) × (g : Option (Map (List ℕ)))
-    × (y ≡ record x { folders = at_name x.folders q g }) × IsServedTo kind in_turn h writable f g
+-- with one worker chunks are served so; else each id holds what it held, or a right chunk
+abbrev pub ChunksAnswered : DigestKind → Bool → Heard → Bool → Map (List ℕ) → Option (Map (List ℕ)) → Type 0
+ChunksAnswered kind false h writable f g = KeepsOpening kind f g
+ChunksAnswered kind true h writable f g = IsAnsweredInTurn (chunk_protocol kind writable) h f g
+
+-- all connections that came were served, which left the folder so
+abbrev pub Answers : (Map (List ℕ) → Option (Map (List ℕ)) → Type 0) → List ℕ → Map (List ℕ) → Ending
+Answers served q f x o y = (o ≡ ends.Done) × (g : Option (Map (List ℕ)))
+    × (y ≡ record x { folders = at_name x.folders q g }) × served f g
 
 -- ---- the commands
 
@@ -244,6 +257,24 @@ Verifies kind q repair f x o y = (damaged : List (List ℕ)) × AreDamaged kind 
       folders = at_name x.folders q (left_of repair damaged (Some f));
       printed = x.printed ++ text_of_damaged repair damaged;
     })
+
+-- how many bytes of the range are put with this outcome: all, or those before the entry that is named
+abbrev pub bytes_put : Listing → ℕ → ℕ → Outcome → ℕ
+bytes_put l at n (ends.Missing k id) = bytes_before l at k
+bytes_put l at n (ends.Damaged k id s shows) = bytes_before l at k
+bytes_put l at n other = n
+
+-- a store gives the chunk of entry i, if the range covers it
+abbrev pub IsGivenIn : Listing → ℕ → ℕ → List (Map (List ℕ)) → ℕ → Type 0
+IsGivenIn l at n stores i = IsCovered l at n i → SomeGivesEntry l i stores
+
+-- the range of the image of the stores is printed; or the first entry that it covers and that no store gives is named,
+-- and the bytes before it are printed. They are others only where two unequal pieces have one name
+abbrev pub PrintsRange : Listing → ℕ → ℕ → List (Map (List ℕ)) → Ending
+PrintsRange l at n stores x o y =
+    (((o ≡ ends.Done) × ((i : ℕ) → IsGivenIn l at n stores i)) ⊎ NamesLacking l (IsGivenIn l at n stores) stores o)
+    × (text : List ℕ) × (length text ≡ bytes_put l at n o)
+    × IsRange l at (bytes_put l at n o) (image_of_stores l stores) text × (y ≡ with_text x text)
 
 -- how many of the listed ids stores hold, if there are stores
 abbrev pub in_stores : Listing → List (Map (List ℕ)) → Option ℕ
@@ -285,6 +316,10 @@ EndingOf h (commands.Extract stores seeds cache in_place workers index target) =
 EndingOf h (commands.ListChunks index) = do
   l ← index_at index
   PrintsText (text_of_chunks l)
+EndingOf h (commands.Cat stores offset length index) = do
+  l ← index_at index
+  fs ← folders_at stores
+  PrintsRange l offset (range_size l offset length) (map chunks fs)
 EndingOf h (commands.Info stores index) = do
   l ← index_at index
   fs ← folders_at stores
@@ -298,7 +333,10 @@ EndingOf h (commands.Prune store indexes) = do
   λ x o y. (o ≡ ends.Done) × (y ≡ with_folder x store (pruned (is_listed_in ls) f))
 EndingOf h (commands.ChunkServer store host port writable workers digest) = do
   f ← folder_at store
-  Answers digest (workers == 1) h writable store f
+  Answers (ChunksAnswered digest (workers == 1) h writable) store f
+EndingOf h (commands.IndexServer store host port writable) = do
+  f ← folder_at store
+  Answers (IsAnsweredInTurn (index_protocol writable) h) store f
 EndingOf h (commands.Demo number size workers digest) = Demonstrates digest number size
 EndingOf h commands.Help = PrintsText (help_text topics.All)
 EndingOf h commands.Version = PrintsText (help_text topics.Version)

@@ -8,7 +8,7 @@ use Rattle.command_worlds.specs.Worlds.{World}
 use Rattle.command_words.specs.declared.command.Command.{Command}
 use Rattle.command_words.specs.declared.command.Command.TheVariants as commands
 use Rattle.desync_cli.specs.Commands.{DesyncEnds}
-use Rattle.store_commands.specs.Serving.{heard}
+use Rattle.server_commands.specs.Serving.{heard}
 use Rattle.dsy_base.specs.Links.{ListenState}
 use Rattle.dsy_base.specs.Maps.{Map}
 

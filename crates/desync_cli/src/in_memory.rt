@@ -5,7 +5,7 @@ ghost use Rattle.command_worlds.specs.Steps.{answer_of};
 ghost use Rattle.command_worlds.specs.Worlds.{world};
 ghost use Rattle.desync_cli.specs.Commands.{Achieves, DesyncEnds, command_of};
 ghost use Rattle.desync_cli.specs.RoundTrip.{InTurn, RoundTrip};
-ghost use Rattle.store_commands.specs.Serving.{heard};
+ghost use Rattle.server_commands.specs.Serving.{heard};
 ghost use Rattle.dsy_base.specs.Disk.{Output};
 ghost use Rattle.dsy_forms.specs.MemFiles.{disk_of, files_of};
 ghost use Rattle.dsy_forms.specs.MemSinks.{output_of};

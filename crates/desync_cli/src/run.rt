@@ -14,7 +14,7 @@ ghost use Rattle.desync_cli.specs.Commands.{LeavesBehind, usage_refusal, spares}
 ghost use Rattle.desync_cli.specs.Contents.{Contents};
 ghost use Rattle.desync_cli.specs.Exact.{IsExact, IsFaultless};
 ghost use Rattle.desync_cli.specs.Lines.{TakesLine};
-ghost use Rattle.store_commands.specs.Serving.{heard};
+ghost use Rattle.server_commands.specs.Serving.{heard};
 ghost use Rattle.dsy_base.specs.Counts.{Quiet};
 ghost use Rattle.command_worlds.specs.Steps.{answer_of, outcome_of};
 ghost use Rattle.command_worlds.specs.Worlds.{DiskQuiet, NoFault, world};
@@ -22,6 +22,7 @@ ghost use Rattle.command_worlds.specs.Worlds.{DiskQuiet, NoFault, world};
 use crate::telling::{longest, take_line, tell, tell_no_room};
 use crate::words::read_command;
 use cache_command::cache::{CacheWords, fill_cache};
+use cat_command::cat::{CatWords, cat};
 use command_help::help::Topic;
 use command_outcome::outcome::{Ended, Outcome};
 use command_words::command::Command;
@@ -37,16 +38,19 @@ use image_commands::make::{Making, make};
 use print_commands::demo::demo;
 use print_commands::help::help;
 use print_commands::list_chunks::print_chunks;
+use server_commands::address::Address;
+use server_commands::chunks::{ChunkService, chunk_server};
+use server_commands::indexes::index_server;
 use std::alloc::Global;
 use std::sync::Wait;
 use std::thread::Threads;
 use store_commands::info::print_info;
 use store_commands::prune::prune_folder;
-use store_commands::server::{Service, chunk_server};
 use store_commands::verify::{Verification, verify};
 use store_commands::verify_index::check_image;
 
 // Does the command.
+#[rattlefmt::skip]
 fn perform<R: Threads + Wait + Sync, F: ImageFiles, D: Dial + Send, L: Listen, O: Sink>(
     rt: &R,
     alloc: Global,
@@ -72,131 +76,51 @@ where
         (world (F.disk files.new) (D.state dial.new) (O.output out.new)) }
 {
     match command {
-        Command::Make {
-            store,
-            sizes,
-            workers,
-            digest,
-            index,
-            image,
-        } => make(
-            rt,
-            alloc,
-            files,
-            dial,
-            Making {
-                store,
-                sizes,
-                workers,
-                digest,
-                index,
-                image,
-            },
-        ),
-        Command::VerifyIndex {
-            workers,
-            index,
-            image,
-        } => check_image(rt, alloc, files, dial, index, image, workers),
+        Command::Make { store, sizes, workers, digest, index, image } =>
+            make(rt, alloc, files, dial, Making { store, sizes, workers, digest, index, image }),
+        Command::VerifyIndex { workers, index, image } => check_image(rt, alloc, files, dial, index, image, workers),
         Command::ListChunks { index } => print_chunks(alloc, files, dial, out, index),
-        Command::Extract {
+        Command::Extract { stores, seeds, cache, in_place, workers, index, target } => {
+            let workers = workers as usize;
+            extract(rt, alloc, files, dial, Extraction { stores, cache, seeds, in_place, workers, index, target })
+        }
+        Command::Cat {
             stores,
-            seeds,
-            cache,
-            in_place,
-            workers,
+            offset,
+            length,
             index,
-            target,
-        } => extract(
-            rt,
+        } => cat(
             alloc,
             files,
             dial,
-            Extraction {
+            out,
+            CatWords {
                 stores,
-                cache,
-                seeds,
-                in_place,
-                workers: workers as usize,
+                offset,
+                length,
                 index,
-                target,
             },
         ),
         Command::Info { stores, index } => print_info(alloc, files, dial, out, stores, index),
         Command::Help => help(out, Topic::All),
         Command::Version => help(out, Topic::Version),
         Command::HelpOn(kind) => help(out, Topic::Command(kind)),
-        Command::Chop {
-            store,
-            workers,
-            index,
-            image,
-        } => chop_into_store(
-            rt,
-            alloc,
-            files,
-            dial,
-            ChopWords {
-                store,
-                workers,
-                index,
-                image,
-            },
-        ),
-        Command::Cache {
-            stores,
-            cache,
-            workers,
-            indexes,
-        } => fill_cache(
-            rt,
-            alloc,
-            files,
-            dial,
-            CacheWords {
-                stores,
-                cache,
-                workers,
-                indexes,
-            },
-        ),
-        Command::Verify {
-            store,
-            repair,
-            workers,
-            digest,
-        } => {
-            let how = Verification {
-                kind: digest,
-                repair,
-                workers,
-            };
-            verify(rt, alloc, files, out, store, how)
-        }
+        Command::Chop { store, workers, index, image } =>
+            chop_into_store(rt, alloc, files, dial, ChopWords { store, workers, index, image }),
+        Command::Cache { stores, cache, workers, indexes } =>
+            fill_cache(rt, alloc, files, dial, CacheWords { stores, cache, workers, indexes }),
+        Command::Verify { store, repair, workers, digest } =>
+            verify(rt, alloc, files, out, store, Verification { kind: digest, repair, workers }),
         Command::Prune { store, indexes } => prune_folder(alloc, files, dial, store, indexes),
-        Command::Demo {
-            number,
-            size,
-            workers,
-            digest,
-        } => demo(rt, alloc, out, number, size, workers as usize, digest),
-        Command::ChunkServer {
-            store,
-            host,
-            port,
-            writable,
-            workers,
-            digest,
-        } => {
-            let service = Service {
-                host,
-                port,
-                kind: digest,
-                writable,
-                workers,
-            };
+        Command::Demo { number, size, workers, digest } =>
+            demo(rt, alloc, out, number, size, workers as usize, digest),
+        Command::ChunkServer { store, host, port, writable, workers, digest } => {
+            let address = Address { host, port };
+            let service = ChunkService { address, kind: digest, writable, workers };
             chunk_server(rt, alloc, files, listen, store, service)
         }
+        Command::IndexServer { store, host, port, writable } =>
+            index_server(alloc, files, listen, store, Address { host, port }, writable),
     }
 }
 

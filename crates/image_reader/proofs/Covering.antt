@@ -22,7 +22,7 @@ module _ (l : Listing) (at n : ℕ) where
       here : (b : Bool) → covers_entry l at n k ≡ b → map (want_of l) (filter (covers_entry l at n) (k ∷ [])) ≡ cond b (want_of l k ∷ []) []
       here b h = ap (λ c. map (want_of l) (cond c (k ∷ []) [])) h ∙ elim b as (λ c. map (want_of l) (cond c (k ∷ []) []) ≡ cond c (want_of l k ∷ []) []) [ true ↦ refl | false ↦ refl ]
 
-  next_is : (k : ℕ) (b : Bool) → covers_entry l at n k ≡ b → wants_to l at n (k + 1) ≡ wants_to l at n k ++ cond b (want_of l k ∷ []) []
+  pub next_is : (k : ℕ) (b : Bool) → covers_entry l at n k ≡ b → wants_to l at n (k + 1) ≡ wants_to l at n k ++ cond b (want_of l k ∷ []) []
   next_is k b h =
       let all = λ (r : List ℕ). map (want_of l) (filter (covers_entry l at n) r) in
       let one : k + 1 ≡ suc k = omega arith in

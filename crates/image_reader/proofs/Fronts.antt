@@ -11,7 +11,7 @@ use Rattle.chunk_store.specs.Giving.{IsChunk}
 use Rattle.image_reader.specs.Covered.{IsCovered}
 use Rattle.image_reader.specs.Images.{HasTwinsIn, IsRightInRange, IsRange}
 
-length_range : (t : List ℕ) (a b : ℕ) → a ≤ b → b ≤ length t → length (slice_range t a b) ≡ b - a
+pub length_range : (t : List ℕ) (a b : ℕ) → a ≤ b → b ≤ length t → length (slice_range t a b) ≡ b - a
 length_range t a b le fits =
     let cut = ap length (between_is t a b) in
     let dropped = length-drop a (take b t) in
@@ -29,7 +29,7 @@ range_in t s e f g up le fits =
     ∙ (ap (take (g - f)) (drop-drop f s t) ∙ ap (λ n. take n (drop (s + f) t)) size))
 
 -- two ranges side by side
-ranges_join : (t : List ℕ) (a b c : ℕ) → a ≤ b → b ≤ c → slice_range t a b ++ slice_range t b c ≡ slice_range t a c
+pub ranges_join : (t : List ℕ) (a b c : ℕ) → a ≤ b → b ≤ c → slice_range t a b ++ slice_range t b c ≡ slice_range t a c
 ranges_join t a b c le more =
     let there : a + (b - a) ≡ b = omega arith in
     let size : (b - a) + (c - b) ≡ c - a = omega arith in

@@ -1,5 +1,6 @@
 pub mod Covering
 pub mod Entries
+pub mod Follows
 pub mod Fronts
 pub mod Got
 pub mod Steps

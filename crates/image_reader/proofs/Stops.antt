@@ -27,10 +27,10 @@ use Rattle.image_reader.specs.declared.want.Want.{Want}
 
 -- one map gives the chunk, so the maps don't lack it
 module _ (kind : DigestKind) (w : Want) where
-  abbrev asked : Query
+  abbrev pub asked : Query
   asked = query_of kind w.id (Some w.size) w.size
 
-  abbrev GivesIt : Map (List ℕ) → Type 0
+  abbrev pub GivesIt : Map (List ℕ) → Type 0
   GivesIt m = GivesChunk kind w.id.0 w.size (m w.id.0)
 
   some_is : (x y : List ℕ) → Some x ≡ Some y → x ≡ y
@@ -61,7 +61,7 @@ module _ (kind : DigestKind) (w : Want) where
   all_none : (maps : List (Map (List ℕ))) → All (HoldsNone asked) maps → All (λ m. GivesIt m → ⊥) maps
   all_none maps all i d lt = none_gives (slice_index_or maps i d) (all i d lt)
 
-  lacks_not : (maps : List (Map (List ℕ))) (r : Refused) → LacksAll asked maps r → Any GivesIt maps → ((r ≡ reason.Missing) ⊎ ((s : ℕ) × (x : Shows) × (r ≡ reason.Damaged s x))) → ⊥
+  pub lacks_not : (maps : List (Map (List ℕ))) (r : Refused) → LacksAll asked maps r → Any GivesIt maps → ((r ≡ reason.Missing) ⊎ ((s : ℕ) × (x : Shows) × (r ≡ reason.Damaged s x))) → ⊥
   lacks_not maps r h any (inl is) =
       let P : Refused → Type 0 = λ x. LacksAll asked maps x in
       all_or_one maps (all_none maps (subst P is h)) any

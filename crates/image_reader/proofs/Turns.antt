@@ -2,6 +2,7 @@
 -- entry.
 use Rattle.std.proofs.Common.{◌≡◌, ℕ, ◌+◌, ◌^◌, ◌<◌, ◌≤◌, ◌++◌, ◌⊎◌, Bool, true, false, cond, List, [], ◌∷◌, map, take, refl, sym, ap, subst, ◌∙◌, arith, inl, inr}
 use Rattle.std.proofs.lemmas.Bool.{cases_lt}
+use Rattle.std.proofs.lemmas.List.{append-nil}
 use Rattle.std.proofs.lemmas.List.Sums.{sum_by_push}
 use Rattle.std.proofs.lemmas.Slice.Eq.{bytes_eq-Decides}
 use Rattle.std.specs.List.{AllZip, count_by}
@@ -17,9 +18,9 @@ use Rattle.store_chain.proofs.Pairs.{all_zip_same}
 use Rattle.store_chain.specs.Chains.{Chained, KeepsStores}
 use Rattle.image_reader.proofs.Covering.{wants_taken}
 use Rattle.image_reader.proofs.Got.{has_first, has_take, has_without, shown_still}
-use Rattle.image_reader.proofs.Steps.{step_push}
+use Rattle.image_reader.proofs.Steps.{missed_push, step_push}
 use Rattle.image_reader.specs.Covered.{IsCovered, IsCoveredGet, want_of, wants_to}
-use Rattle.image_reader.specs.Keeping.{Stepped, has_want, step, turn, without_want}
+use Rattle.image_reader.specs.Keeping.{Stepped, has_want, missed, step, turn, without_want}
 use Rattle.image_reader.specs.Reading.{AsksWants, HitsWant, IsGot, IsHad, MissesWant, ReaderState, ReadsTo}
 use Rattle.image_reader.specs.declared.want.Want.{Want}
 
@@ -31,13 +32,7 @@ asks_none asked = record { no_less = λ q. omega arith; most = λ q. omega arith
 count_push : (p : Want → Bool) (ws : List Want) (w : Want) (b : Bool) → p w ≡ b → count_by p (ws ++ w ∷ []) ≡ count_by p ws + cond b 1 0
 count_push p ws w b h = sum_by_push (λ x. cond (p x) 1 0) ws w ∙ ap (λ c. count_by p ws + cond c 1 0) h
 
-asks_as_before : (ws : List Want) (w : Want) (old mid : List ℕ → ℕ) → AsksWants ws old mid → AsksWants (ws ++ w ∷ []) old mid
-asks_as_before ws w old mid h = record {
-  no_less = h.no_less;
-  most = λ q. (let more = count_push (λ x. bytes_eq x.id.0 q) ws w (bytes_eq w.id.0 q) refl in omega (arith, more, h.most q));
-}
-
-asks_once_more : (ws : List Want) (w : Want) (old mid new : List ℕ → ℕ) → AsksWants ws old mid → AskedOnce mid new w.id.0 → AsksWants (ws ++ w ∷ []) old new
+pub asks_once_more : (ws : List Want) (w : Want) (old mid new : List ℕ → ℕ) → AsksWants ws old mid → AskedOnce mid new w.id.0 → AsksWants (ws ++ w ∷ []) old new
 asks_once_more ws w old mid new h one = record {
   no_less = λ q. by_id q (bytes_eq w.id.0 q) refl;
   most = λ q. most_by q (bytes_eq w.id.0 q) refl;
@@ -63,19 +58,13 @@ asks_once_more ws w old mid new h one = record {
       omega (arith, h.most q, more)
 
 -- three lists of stores
-each_then : {A : Type 0} (P Q R : A → A → Type 0) → ((a b c : A) → P a b → Q b c → R a c) → (xs ys zs : List A) → AllZip P xs ys → AllZip Q ys zs → AllZip R xs zs
+pub each_then : {A : Type 0} (P Q R : A → A → Type 0) → ((a b c : A) → P a b → Q b c → R a c) → (xs ys zs : List A) → AllZip P xs ys → AllZip Q ys zs → AllZip R xs zs
 each_then P Q R go [] [] [] first then = tt
 each_then P Q R go [] [] (z ∷ zs) first then = absurd then
 each_then P Q R go [] (y ∷ ys) zs first then = absurd first
 each_then P Q R go (x ∷ xs) [] zs first then = absurd first
 each_then P Q R go (x ∷ xs) (y ∷ ys) [] first then = absurd then
 each_then P Q R go (x ∷ xs) (y ∷ ys) (z ∷ zs) first then = (go x y z first.0 then.0, each_then P Q R go xs ys zs first.1 then.1)
-
-each_weaker : {A : Type 0} (P R : A → A → Type 0) → ((a b : A) → P a b → R a b) → (xs ys : List A) → AllZip P xs ys → AllZip R xs ys
-each_weaker P R go [] [] all = tt
-each_weaker P R go [] (y ∷ ys) all = absurd all
-each_weaker P R go (x ∷ xs) [] all = absurd all
-each_weaker P R go (x ∷ xs) (y ∷ ys) all = (go x y all.0, each_weaker P R go xs ys all.1)
 
 raised_once : (a m : ℕ) → raised (raised a m) 1 ≡ raised a (m + 1)
 raised_once a m = omega arith
@@ -86,7 +75,7 @@ module _ {S : Type 0} (store : StoreWords S) (at n : ℕ) where
   -- nothing was read yet
   pub reads_none : (k : ℕ) (old : ReaderState S) → wants_to old.index at n k ≡ [] → old.chain.asks < 2 ^ 64 → ((i : ℕ) → i < k → IsCovered old.index at n i → ⊥) → ReadsTo store at n k old old
   reads_none k old none below uncovered =
-      let P : List Want → Type 0 = λ ws. AllZip (λ a b. AsksWants ws (store.asked a) (store.asked b)) old.chain.stores old.chain.stores in
+      let P : List Want → Type 0 = λ ws. AllZip (λ a b. AsksWants (missed old.keep old.kept ws) (store.asked a) (store.asked b)) old.chain.stores old.chain.stores in
       let once : raised old.chain.asks 0 ≡ old.chain.asks = omega arith in
       record {
         kept = sym (ap (λ ws. (step old.keep old.kept ws).kept) none);
@@ -115,6 +104,11 @@ module _ {S : Type 0} (store : StoreWords S) (at n : ℕ) where
         let here : List Want → Bool → Stepped = λ ks c. cond c (record { kept = v ∷ without_want v ks; misses = m }) (record { kept = take old.keep (v ∷ ks); misses = m + 1 }) in
         ap (λ ks. here ks (has_want ks v)) (sym before.kept) ∙ ap (here mid.kept) h
 
+    -- those that were missed
+    missed_by : (b : Bool) → has_want mid.kept (want_of old.index i) ≡ b → missed old.keep old.kept (wants_to old.index at n (i + 1)) ≡ missed old.keep old.kept (wants_to old.index at n i) ++ cond b [] (want_of old.index i ∷ [])
+    missed_by b h = ap (missed old.keep old.kept) (wants_taken old.index at n i covered)
+        ∙ missed_push old.keep old.kept (wants_to old.index at n i) (want_of old.index i) b (sym (ap (λ ks. has_want ks (want_of old.index i)) before.kept) ∙ h)
+
     -- ---- it was kept
     module _ (hit : HitsWant store (want_of old.index i) mid new) where
       same_chain : new.chain ≡ mid.chain
@@ -131,7 +125,7 @@ module _ {S : Type 0} (store : StoreWords S) (at n : ℕ) where
           let all = turned ∙ turned_by true hit.had in
           let here : IsHad store v old mid = before.known v hit.had in
           let kept_is : new.kept ≡ v ∷ without_want v mid.kept = ap (λ (r : ReaderState S). r.kept) hit.now_is in
-          let T : Chained S → Type 0 = λ c. AllZip (λ a b. AsksWants (wants_to old.index at n (i + 1)) (store.asked a) (store.asked b)) old.chain.stores c.stores in
+          let T : Chained S → Type 0 = λ c. AllZip (λ a b. AsksWants (missed old.keep old.kept (wants_to old.index at n (i + 1))) (store.asked a) (store.asked b)) old.chain.stores c.stores in
           let U : List Want → Type 0 = λ us. AllZip (λ a b. AsksWants us (store.asked a) (store.asked b)) old.chain.stores mid.chain.stores in
           let K : Chained S → Type 0 = λ c. KeepsStores store (IsCoveredGet old.index at n) old.chain.stores c.stores in
           record {
@@ -140,8 +134,7 @@ module _ {S : Type 0} (store : StoreWords S) (at n : ℕ) where
             had = λ j lt c. had_by j (cases_lt j i) lt c;
             known = λ u has. known_by u (has_first v (without_want v mid.kept) u (sym (ap (λ ks. has_want ks u) kept_is) ∙ has));
             stores = subst K (sym same_chain) before.stores;
-            times = subst T (sym same_chain) (subst U (sym (wants_taken old.index at n i covered)) (each_weaker (λ a b. AsksWants (wants_to old.index at n i) (store.asked a) (store.asked b))
-                (λ a b. AsksWants (wants_to old.index at n i ++ v ∷ []) (store.asked a) (store.asked b)) (λ a b h. asks_as_before (wants_to old.index at n i) v (store.asked a) (store.asked b) h) old.chain.stores mid.chain.stores before.times));
+            times = subst T (sym same_chain) (subst U (sym (missed_by true hit.had ∙ append-nil (missed old.keep old.kept (wants_to old.index at n i)))) before.times);
             queries = ap (λ (c : Chained S). map store.queried c.stores) same_chain ∙ before.queries;
             kind = ap (λ (c : Chained S). c.kind) same_chain ∙ before.kind;
             index = ap (λ (r : ReaderState S). r.index) hit.now_is ∙ before.index;
@@ -195,8 +188,8 @@ module _ {S : Type 0} (store : StoreWords S) (at n : ℕ) where
             known = λ u has. known_by u (has_first v mid.kept u (has_take old.keep (v ∷ mid.kept) u (sym (ap (λ ks. has_want ks u) kept_is) ∙ has)));
             stores = kept_on store (IsCoveredGet old.index at n) old.chain.stores mid.chain.stores new.chain.stores before.stores
                 (kept_weaker store (λ a. a ≡ Get v.id.0) (IsCoveredGet old.index at n) get mid.chain.stores new.chain.stores miss.stores);
-            times = subst U (sym (wants_taken old.index at n i covered)) (each_then (λ a b. AsksWants (wants_to old.index at n i) (store.asked a) (store.asked b)) (λ a b. AskedOnce (store.asked a) (store.asked b) v.id.0)
-                (λ a b. AsksWants (wants_to old.index at n i ++ v ∷ []) (store.asked a) (store.asked b)) (λ a b c h g. asks_once_more (wants_to old.index at n i) v (store.asked a) (store.asked b) (store.asked c) h g)
+            times = subst U (sym (missed_by false miss.lacked)) (each_then (λ a b. AsksWants (missed old.keep old.kept (wants_to old.index at n i)) (store.asked a) (store.asked b)) (λ a b. AskedOnce (store.asked a) (store.asked b) v.id.0)
+                (λ a b. AsksWants (missed old.keep old.kept (wants_to old.index at n i) ++ v ∷ []) (store.asked a) (store.asked b)) (λ a b c h g. asks_once_more (missed old.keep old.kept (wants_to old.index at n i)) v (store.asked a) (store.asked b) (store.asked c) h g)
                 old.chain.stores mid.chain.stores new.chain.stores before.times miss.asked.stores);
             queries = miss.asked.queries ∙ before.queries;
             kind = miss.asked.kind ∙ before.kind;
@@ -220,7 +213,7 @@ module _ {S : Type 0} (store : StoreWords S) (at n : ℕ) where
   reads_all k old new same inside reads =
       let K : List Want → Type 0 = λ ws. new.kept ≡ (step old.keep old.kept ws).kept in
       let A : List Want → Type 0 = λ ws. new.chain.asks ≡ raised old.chain.asks (step old.keep old.kept ws).misses in
-      let T : List Want → Type 0 = λ ws. AllZip (λ a b. AsksWants ws (store.asked a) (store.asked b)) old.chain.stores new.chain.stores in
+      let T : List Want → Type 0 = λ ws. AllZip (λ a b. AsksWants (missed old.keep old.kept ws) (store.asked a) (store.asked b)) old.chain.stores new.chain.stores in
       record {
         kept = subst K (sym same) reads.kept;
         asks = subst A (sym same) reads.asks;

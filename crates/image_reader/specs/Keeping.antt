@@ -45,6 +45,13 @@ turn keep s w =
 abbrev pub step : ℕ → List Want → List Want → Stepped
 step keep kept wants = fold (turn keep) (record { kept = kept; misses = 0 }) wants
 
+-- those of these wants that are missed, in order
+abbrev pub missed : ℕ → List Want → List Want → List Want
+missed keep kept [] = []
+missed keep kept (w ∷ ws) =
+    if has_want kept w then missed keep (w ∷ without_want w kept) ws
+    else w ∷ missed keep (take keep (w ∷ kept)) ws
+
 -- how many of the wants are missed where nothing is kept first
 abbrev pub misses : ℕ → List Want → ℕ
 misses keep wants = (step keep [] wants).misses

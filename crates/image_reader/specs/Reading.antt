@@ -3,7 +3,7 @@
 use Rattle.std.specs.Prelude.{◌≡◌, ◌⊎◌, ℕ, ◌+◌, ◌-◌, ◌<◌, ◌≤◌, List, ◌∷◌, map, take, true, false}
 use Rattle.std.specs.List.{AllZip, Any, count_by}
 use Rattle.std.specs.Str.{bytes_eq}
-use Rattle.caibx_codec.specs.Listing.{Listing}
+use Rattle.caibx_codec.specs.Listing.{Listing, id_of}
 use Rattle.chunk_store.specs.Asks.{Get}
 use Rattle.chunk_store.specs.Giving.{IsChunk}
 use Rattle.chunk_store.specs.declared.id.DigestKind.{DigestKind}
@@ -13,7 +13,7 @@ use Rattle.store_chain.specs.Chains.{AsksOnce, Chained, KeepsStores}
 use Rattle.store_chain.specs.Giving.{SomeHolds}
 use Rattle.store_chain.specs.declared.refused.Refused.{Refused}
 use Rattle.image_reader.specs.Covered.{IsCovered, IsCoveredGet, want_of, wants_to}
-use Rattle.image_reader.specs.Keeping.{Kept, has_want, step, without_want}
+use Rattle.image_reader.specs.Keeping.{Kept, has_want, missed, step, without_want}
 use Rattle.image_reader.specs.Refusals.{MissFails, read_refused_of}
 use Rattle.image_reader.specs.declared.refused.ReadRefused.{ReadRefused}
 use Rattle.image_reader.specs.declared.want.Want.{Want}
@@ -71,8 +71,8 @@ module _ {S : Type 0} (store : StoreWords S) where
       pub had : (i : ℕ) → i < k → IsCovered old.index at n i → IsHad (want_of old.index i) old now
       pub known : (w : Want) → has_want now.kept w ≡ true → IsHad w old now
       pub stores : KeepsStores store (IsCoveredGet old.index at n) old.chain.stores now.chain.stores
-      pub times : AllZip (λ a b. AsksWants (wants_to old.index at n k) (store.asked a) (store.asked b))
-          old.chain.stores now.chain.stores
+      pub times : AllZip (λ a b. AsksWants (missed old.keep old.kept (wants_to old.index at n k))
+          (store.asked a) (store.asked b)) old.chain.stores now.chain.stores
       pub queries : map store.queried now.chain.stores ≡ map store.queried old.chain.stores
       pub kind : now.chain.kind ≡ old.chain.kind
       pub index : now.index ≡ old.index
@@ -91,6 +91,7 @@ module _ {S : Type 0} (store : StoreWords S) where
       pub told : why ≡ read_refused_of entry (want_of old.index entry).id refused
       pub fails : MissFails store (want_of old.index entry) refused before.chain now.chain
       pub kept : now.kept ≡ take (old.keep - 1) before.kept
+      pub since : KeepsStores store (λ a. a ≡ Get (id_of old.index entry)) before.chain.stores now.chain.stores
       pub stores : KeepsStores store (IsCoveredGet old.index at n) old.chain.stores now.chain.stores
       pub kind : now.chain.kind ≡ old.chain.kind
       pub index : now.index ≡ old.index

@@ -6,7 +6,7 @@ ghost use Rattle.caibx_codec.specs.Listing.{count_of, end_of};
 use caibx_codec::index::Index;
 
 /// The first entry that ends past this offset, or the number of entries where none does. It is found by bisection.
-pub(crate) fn first_past(index: &Index, at: u64) -> usize
+pub fn first_past(index: &Index, at: u64) -> usize
     ensures inside { result ≤ count_of index.now }
     ensures before { (i : ℕ) → i < result → end_of index.now i ≤ at }
     ensures first { result < count_of index.now → at < end_of index.now result }

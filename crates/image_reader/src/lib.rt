@@ -1,7 +1,7 @@
 //! Ranges of an image that isn't assembled: the chunks come from stores, and a few of them are kept.
 #![tactic(auto)]
 
-mod cover;
+pub mod cover;
 mod kept;
 pub mod laws;
 pub mod reader;

@@ -90,6 +90,13 @@ impl<S: Store> ImageReader<S> {
         read
     }
 
+    /// What the image consists of.
+    pub fn index(&self) -> &Index
+        ensures value { result.now ≡ self.now.index }
+    {
+        &self.index
+    }
+
     /// How often the stores were asked for a chunk. The count stays at its greatest value.
     pub fn asks(&self) -> u64
         ensures value { result ≡ self.now.chain.asks }

@@ -12,7 +12,7 @@ use std::alloc::Global;
 use std::marker::PhantomData;
 
 /// How requests for indexes are read, and answered by a folder of them. One that is refused isn't shown to it.
-pub(crate) struct IndexService<F: Folder> {
+pub struct IndexService<F: Folder> {
     folder: PhantomData<F>,
 }
 

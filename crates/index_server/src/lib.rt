@@ -4,7 +4,7 @@
 
 pub mod fetch_index;
 mod index_file;
-mod index_service;
+pub mod index_service;
 pub mod laws;
 pub mod serve_index;
 pub mod state;

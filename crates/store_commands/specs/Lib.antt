@@ -1,5 +1,4 @@
 pub mod Info
 pub mod Prune
-pub mod Serving
 pub mod Verify
 pub mod VerifyIndex

@@ -2,7 +2,7 @@ use Rattle.std.proofs.Common.{false, map, string_bytes}
 use Rattle.desync_cli.proofs.RoundTrip.{round_trip}
 use Rattle.desync_cli.proofs.in_memory.make_then_extract.Goals as goal
 use Rattle.desync_cli.specs.Commands.{command_of}
-use Rattle.store_commands.specs.Serving.{heard}
+use Rattle.server_commands.specs.Serving.{heard}
 use Rattle.command_worlds.specs.Worlds.{world}
 use Rattle.dsy_forms.specs.MemFiles.{disk_of, file_counts_of, files_of, folder_counts_of, folders_of}
 use Rattle.dsy_forms.specs.MemSinks.{output_of}

@@ -2,7 +2,7 @@ use Rattle.std.proofs.Common.{map, string_bytes, sym, ◌∙◌, arith}
 use Rattle.std.proofs.lemmas.List.{length-map}
 use Rattle.command_worlds.specs.Worlds.{world}
 use Rattle.desync_cli.proofs.Replaced.{left_behind}
-use Rattle.store_commands.specs.Serving.{heard}
+use Rattle.server_commands.specs.Serving.{heard}
 use Rattle.desync_cli.proofs.AtHand.{ends_at_hand}
 use Rattle.desync_cli.proofs.Done.{achieved}
 use Rattle.desync_cli.proofs.Exact.{exact}

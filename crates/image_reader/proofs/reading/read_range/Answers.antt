@@ -83,6 +83,7 @@ returns-in-Err-clause-err g c =
       told = e.1;
       fails = e.3;
       kept = ap (λ (k : Kept). k.wants) e.4 ∙ ap (λ (k : ℕ). take (k - 1) c.loop-i.kept.wants) before.reads.keep;
+      since = c.read_entry.ensures.kept;
       stores = kept_on g.S.Store (IsCoveredGet l at n) c.args.chain.now.stores c.loop-i.chain.stores c.read_entry.new.chain.stores before.reads.stores
           (kept_weaker g.S.Store (λ a. a ≡ Get (id_of l i)) (IsCoveredGet l at n) get c.loop-i.chain.stores c.read_entry.new.chain.stores c.read_entry.ensures.kept);
       kind = c.read_entry.ensures.same ∙ before.reads.kind;

@@ -1,0 +1,105 @@
+-- What was put between two worlds, where the stores were opened in the first and given back in the second.
+use Rattle.std.proofs.Common.{◌≡◌, ℕ, zero, suc, ◌<◌, List, [], ◌∷◌, length, map, All, slice_index_or, Option, Some, None, IfSome, Result, Ok, Err, refl, sym, subst, ◌∙◌, arith, inr}
+use Rattle.std.proofs.lemmas.List.Elements.{All-tail}
+use Rattle.std.specs.List.{Any}
+use Rattle.caibx_codec.specs.Listing.{Listing, Rules, id_of, kind_of, size_of}
+use Rattle.cat_command.specs.Cat.{EndsRange, HasShownEntry, IsGivenEntry, PutsBefore, PutsFirst, WhereTold}
+use Rattle.cat_command.specs.Putting.{EndsGiving, PutsGiven, PutsUntil, bytes_before, chunk_at}
+use Rattle.chunk_store.specs.Folders.{chunks}
+use Rattle.chunk_store.specs.Giving.{IsChunk}
+use Rattle.chunk_store.specs.declared.id.ChunkId.{ChunkId}
+use Rattle.chunk_store.specs.declared.id.DigestKind.{DigestKind}
+use Rattle.chunk_store.specs.declared.store.Store.{Ghosts as StoreWords}
+use Rattle.command_outcome.specs.declared.outcome.Outcome.{Outcome}
+use Rattle.command_outcome.specs.declared.outcome.Outcome.TheVariants as ends
+use Rattle.command_steps.proofs.Given.{Stands}
+use Rattle.command_steps.proofs.Lacked.{have_lacked}
+use Rattle.command_steps.specs.Sources.{location_files, said_at, storage_of}
+use Rattle.command_words.specs.declared.command.Location.{Location}
+use Rattle.command_worlds.specs.Steps.{◌>>=◌}
+use Rattle.command_worlds.specs.Worlds.{Step, World}
+use Rattle.dsy_base.specs.Maps.{Map}
+use Rattle.image_reader.proofs.StoreImages.{stores_right}
+use Rattle.image_reader.specs.Covered.{want_of}
+use Rattle.image_reader.specs.Images.{IsRange, SomeGivesEntry, image_of_stores}
+use Rattle.image_reader.specs.Reading.{IsGot}
+use Rattle.store_chain.specs.Chains.{Chained}
+use Rattle.store_chain.specs.Giving.{LacksAll}
+use Rattle.store_chain.specs.Refusals.{Refuses}
+use Rattle.store_chain.specs.declared.refused.Refused.{Refused}
+use Rattle.store_chain.specs.declared.refused.Refused.TheVariants as refused
+
+-- a step passed, and what follows on it ended so
+pub then_so : {A B : Type 0} (step : Step World A) (next : A → Step World B) (w u v : World) (a : A) (r : Result B Outcome) → step w (Ok a) u → next a u r v → (step >>= next) w r v
+then_so step next w u v a (Ok b) did then = record { disk = u.disk; dial = u.dial; out = u.out; gave = a; did = did; then = then }
+then_so step next w u v a (Err o) did then = inr (record { disk = u.disk; dial = u.dial; out = u.out; gave = a; did = did; then = then })
+
+-- some element is so, and its place is
+any_as : {S L : Type 0} (location : S → L) (T P : S → Type 0) (Q : L → Type 0) → ((s : S) → T s → P s → Q (location s)) → (xs : List S) (names : List L) → map location xs ≡ names → All T xs → (k : ℕ) (x : S) → k < length xs → slice_index_or xs k x ≡ x → P x → Any Q names
+any_as location T P Q f [] names same all k x lt is p = absurd (omega arith)
+any_as location T P Q f (y ∷ xs) [] same all k x lt is p = absurd (cc)
+any_as location T P Q f (y ∷ xs) (q ∷ names) same all zero x lt is p =
+    let here : location y ≡ q = cc in
+    (0, q, omega arith, refl, subst Q here (f y (all 0 y (omega arith)) (subst P (sym is) p)))
+any_as location T P Q f (y ∷ xs) (q ∷ names) same all (suc k) x lt is p =
+    let rest : map location xs ≡ names = cc in
+    let r = any_as location T P Q f xs names rest (All-tail T y xs all) k x (omega arith) is p in
+    (suc r.0, r.1, omega arith, r.3, r.4)
+
+module _ {S : Type 0} (store : StoreWords S) (location : S → Location) (files : S → Option (Map (List ℕ))) (w v : World) (stores : List Location) (l : Listing) (rules : Rules l) (at n : ℕ) (c d : Chained S) (kind : c.kind ≡ kind_of l)
+    (held : (fs : List (Map (List ℕ))) → map files c.stores ≡ map Some fs → map store.holds c.stores ≡ map Some (map chunks fs)) (found : IfSome w.disk.folders (λ m. map files c.stores ≡ map (location_files m) stores))
+    (located : map location d.stores ≡ stores) (stand : All (Stands location store.said store.faults (storage_of w) (storage_of v)) d.stores) where
+  -- what holds where all stores tell
+  where_told : (P : List (Map (List ℕ)) → Type 0) → ((fs : List (Map (List ℕ))) → map store.holds c.stores ≡ map Some (map chunks fs) → P fs) → WhereTold (storage_of w) stores P
+  where_told P f = go w.disk.folders found where
+    go : (o : Option (Map (Map (List ℕ)))) → IfSome o (λ m. map files c.stores ≡ map (location_files m) stores) → IfSome o (λ m. (fs : List (Map (List ℕ))) → map (location_files m) stores ≡ map Some fs → P fs)
+    go None h = tt
+    go (Some m) h = λ fs told. f fs (held fs (h ∙ told))
+
+  -- a chunk that was got
+  gives_told : (i : ℕ) → IsGot store c.kind (want_of l i) c.stores d.stores → (fs : List (Map (List ℕ))) → map store.holds c.stores ≡ map Some (map chunks fs) → SomeGivesEntry l i (map chunks fs)
+  gives_told i g fs told =
+      let C : DigestKind → Type 0 = λ k. IsChunk k (id_of l i) (size_of l i) g.bytes in
+      let any = g.held (map chunks fs) told in
+      (any.0, any.1, any.2, any.3, (g.bytes, any.4, subst C kind g.chunk))
+
+  given_entry : (i : ℕ) → IsGot store c.kind (want_of l i) c.stores d.stores → IsGivenEntry stores l at n w v i
+  given_entry i g =
+      let C : DigestKind → Type 0 = λ k. IsChunk k (id_of l i) (size_of l i) g.bytes in
+      let T = Stands location store.said store.faults (storage_of w) (storage_of v) in
+      record {
+        shown = any_as location T (λ s. (store.said s).shown (id_of l i) g.bytes) (λ y. HasShownEntry l i (said_at (storage_of w) (storage_of v) y)) (λ s so p. (g.bytes, (so.says (id_of l i)).shown g.bytes p, subst C kind g.chunk)) d.stores stores located stand g.shown.0 g.shown.1 g.shown.2 g.shown.3 g.shown.4;
+        held = where_told (λ fs. SomeGivesEntry l i (map chunks fs)) (gives_told i g);
+      }
+
+  puts_first : (m : ℕ) → PutsGiven store l at n c d w.out v.out m → PutsFirst stores l at n w v m
+  puts_first m h = record {
+    fits = h.fits;
+    text = h.puts.text;
+    bytes = h.puts.bytes;
+    exactly = where_told (λ fs. IsRange l at m (image_of_stores l (map chunks fs)) h.puts.text)
+        (λ fs told. h.puts.bytes.right (image_of_stores l (map chunks fs)) (stores_right l (map chunks fs) rules at m (λ i covered. gives_told i (h.given i covered) fs told)));
+    taken = h.puts.taken;
+    given = λ i covered. given_entry i (h.given i covered);
+  }
+
+  puts_before : (k : ℕ) (id : ChunkId) (r : Refused) → PutsUntil store l at n c d w.out v.out k id r → PutsBefore stores l at n w v k id r
+  puts_before k id r h =
+      let R : DigestKind → Type 0 = λ x. Refuses store.said store.faults store.may_lack_memory (chunk_at x l k) h.before d.stores r in
+      let L : List (Map (List ℕ)) → DigestKind → Type 0 = λ fs x. LacksAll (chunk_at x l k) (map chunks fs) r in
+      record {
+        covered = h.covered;
+        id_is = h.id_is;
+        puts = puts_first (bytes_before l at k) h.puts;
+        said = have_lacked location store.said store.faults store.may_lack_memory (storage_of w) (storage_of v) stores (chunk_at (kind_of l) l k) r h.before d.stores h.many located stand (subst R kind h.refused);
+        lacks = where_told (λ fs. LacksAll (chunk_at (kind_of l) l k) (map chunks fs) r) (λ fs told. subst (L fs) kind (h.lacks (map chunks fs) told));
+      }
+
+  pub ends_between : (r : Result Unit Outcome) → EndsGiving store l at n c d w.out v.out r → EndsRange stores l at n w v r
+  ends_between (Ok u) h = puts_first n h
+  ends_between (Err (ends.Missing k id)) h = puts_before k id refused.Missing h
+  ends_between (Err (ends.Damaged k id s x)) h = puts_before k id (refused.Damaged s x) h
+  ends_between (Err (ends.StoreFault s)) h = (h.0, h.1, puts_before h.0 h.1 (refused.StoreFault s) h.2)
+  ends_between (Err ends.OutFault) h = (h.0, (h.1.0, puts_first h.1.0 h.1.1))
+  ends_between (Err ends.Memory) h = ((h.0.0, puts_first h.0.0 h.0.1), h.1)
+  ends_between (Err other) h = absurd h

@@ -1,0 +1,7 @@
+pub mod AnyWords
+pub mod Between
+pub mod Entries
+pub mod Given
+pub mod Parts
+pub mod Pieces
+pub mod Ranges

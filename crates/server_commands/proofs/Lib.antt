@@ -1,0 +1,3 @@
+pub mod Listened
+pub mod Given
+pub mod Shared
