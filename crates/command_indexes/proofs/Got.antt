@@ -48,7 +48,7 @@ since_one P Q on (Some x) b (t, is, p) =
 
 -- ---- a file
 
-is_false : (b : Bool) → IsTrue (not b) → b ≡ false
+pub is_false : (b : Bool) → IsTrue (not b) → b ≡ false
 is_false true h = absurd (cc)
 is_false false h = refl
 
@@ -56,7 +56,7 @@ else_is : {X : Type 0} (b : Bool) (x y : X) → b ≡ false → cond b x y ≡ y
 else_is true x y same = absurd (cc)
 else_is false x y same = refl
 
-place_of_file : (q : List ℕ) → is_index_url q ≡ false → index_place_of q ≡ Ok (places.File q)
+pub place_of_file : (q : List ℕ) → is_index_url q ≡ false → index_place_of q ≡ Ok (places.File q)
 place_of_file q same = else_is (is_index_url q) _ (Ok (places.File q)) same
 
 -- no server is asked for it
