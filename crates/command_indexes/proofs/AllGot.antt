@@ -1,5 +1,5 @@
 -- Indexes that were all had, in order: what is left, and what their operands spelled.
-use Rattle.std.proofs.Common.{◌≡◌, ◌∙◌, ℕ, List, [], ◌∷◌, Ok, Err, refl, sym, ap, subst, arith}
+use Rattle.std.proofs.Common.{◌≡◌, ℕ, List, [], ◌∷◌, Ok, sym, subst, arith}
 use Rattle.std.specs.List.{AllZip}
 use Rattle.caibx_codec.specs.Listing.{Listing}
 use Rattle.command_indexes.proofs.Got.{got_dials, got_reads}
