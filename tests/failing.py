@@ -271,6 +271,7 @@ SCENES = {
               lambda path, data: data is None and path in [*VICTIMS, 'full/.tmp-cacnkx']),
     'list-chunks': (['list-chunks', 'a.caibx'], no_change),
     'info': (['info', '-s', 'st', 'a.caibx'], no_change),
+    'cat': (['cat', '-s', 'st', '-o', '5', 'a.caibx'], no_change),
     'verify-index': (['verify-index', 'a.caibx', 'image'], no_change),
     'demo': (['demo', '-n', '3', '7', '300000'], no_change),
     'verify -r': (['verify', '-r', '-s', 'full'], lambda path, data: data is None and path in DAMAGED),

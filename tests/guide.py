@@ -153,7 +153,8 @@ class Reader:
                 expect_equal(replies.to_the_end(peer), replies.Wanted(404, closes=True).bytes, 'the reply beside them')
 
     def type(self, block):
-        for tool, word, there in (('casync', 'casync ', shutil.which('casync')), ('curl', 'curl ', shutil.which('curl')),
+        for tool, word, there in (('casync', 'casync ', shutil.which('casync')),
+                                  ('curl', 'curl ', shutil.which('curl')),
                                   ('nginx', NGINX, servers.nginx_program()),
                                   ('openssl', 'openssl ', shutil.which('openssl'))):
             if word in block and not there:

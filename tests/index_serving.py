@@ -1,8 +1,8 @@
 #!/usr/bin/env python3
 """`desync index-server`: what curl gets from it and puts to it, and what no request reaches.
 
-The indexes are spelled by tests/formats.py. The server listens on the loopback interface at a free port, over the folder
-`st` of a case; beside it lie files that no request may read or change.
+The indexes are spelled by tests/formats.py. The server listens on the loopback interface at a free port, over the
+folder `st` of a case; beside it lie files that no request may read or change.
 """
 
 import contextlib

@@ -20,8 +20,8 @@ from formats import ABC_INDEX
 
 INDEX, IMAGE = 'a.caibx', 'img'
 MIB = 1 << 20
-COMMANDS = ['make', 'extract', 'verify-index', 'chop', 'cache', 'list-chunks', 'info', 'verify', 'prune',
-            'chunk-server', 'demo']
+COMMANDS = ['make', 'extract', 'cat', 'verify-index', 'chop', 'cache', 'list-chunks', 'info', 'verify', 'prune',
+            'chunk-server', 'index-server', 'demo']
 
 # What is wanted
 

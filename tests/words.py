@@ -124,8 +124,8 @@ def why_not_operand(command, before, most, word):
 def is_index_url(word):
     """Whether the word, which has `://`, is the URL of an index. A location that is on neither list of names is bad, or
     has no path."""
-    expect(word in BAD_INDEXES + INDEX_URLS or location(word) == 'bad' or word in ('http://localhost', 'http://127.0.0.1/'),
-           f'{word} isn\'t on the list')
+    no_index = [*BAD_INDEXES, 'http://localhost', 'http://127.0.0.1/']
+    expect(word in no_index + INDEX_URLS or location(word) == 'bad', f'{word} isn\'t on the list')
     return word in INDEX_URLS
 
 

@@ -3,7 +3,7 @@ use Rattle.std.proofs.Common.{◌≡◌, ℕ, zero, suc, ◌<◌, List, [], ◌�
 use Rattle.std.proofs.lemmas.List.Elements.{All-tail}
 use Rattle.std.specs.List.{Any}
 use Rattle.caibx_codec.specs.Listing.{Listing, Rules, id_of, kind_of, size_of}
-use Rattle.cat_command.specs.Cat.{EndsRange, HasShownEntry, IsGivenEntry, PutsBefore, PutsFirst, WhereTold}
+use Rattle.cat_command.specs.Cat.{EndsRange, HasShownEntry, IsGivenEntry, PutsBefore, PutsFirst, IfFolders}
 use Rattle.cat_command.specs.Putting.{EndsGiving, PutsGiven, PutsUntil, bytes_before, chunk_at}
 use Rattle.chunk_store.specs.Folders.{chunks}
 use Rattle.chunk_store.specs.Giving.{IsChunk}
@@ -50,7 +50,7 @@ module _ {S : Type 0} (store : StoreWords S) (location : S → Location) (files 
     (held : (fs : List (Map (List ℕ))) → map files c.stores ≡ map Some fs → map store.holds c.stores ≡ map Some (map chunks fs)) (found : IfSome w.disk.folders (λ m. map files c.stores ≡ map (location_files m) stores))
     (located : map location d.stores ≡ stores) (stand : All (Stands location store.said store.faults (storage_of w) (storage_of v)) d.stores) where
   -- what holds where all stores tell
-  where_told : (P : List (Map (List ℕ)) → Type 0) → ((fs : List (Map (List ℕ))) → map store.holds c.stores ≡ map Some (map chunks fs) → P fs) → WhereTold (storage_of w) stores P
+  where_told : (P : List (Map (List ℕ)) → Type 0) → ((fs : List (Map (List ℕ))) → map store.holds c.stores ≡ map Some (map chunks fs) → P fs) → IfFolders (storage_of w) stores P
   where_told P f = go w.disk.folders found where
     go : (o : Option (Map (Map (List ℕ)))) → IfSome o (λ m. map files c.stores ≡ map (location_files m) stores) → IfSome o (λ m. (fs : List (Map (List ℕ))) → map (location_files m) stores ≡ map Some fs → P fs)
     go None h = tt

@@ -7,7 +7,7 @@ use Rattle.std.specs.Option.{option_map}
 use Rattle.caibx_codec.specs.Listing.{Listing, Rules, count_of, end_of, start_of}
 use Rattle.cat_command.proofs.Parts.{before_entry, covered_wider, none_wanted, part_covered, part_only, part_wanted}
 use Rattle.cat_command.proofs.Pieces.{puts_more, puts_none, text_front}
-use Rattle.cat_command.specs.Putting.{BreaksOff, EndsPutting, IsText, PutsRange, PutsText, StopsAtEntry, bytes_before, outcome_of_read}
+use Rattle.cat_command.specs.Putting.{BreaksPutting, EndsPutting, IsText, PutsRange, PutsText, StopsAtEntry, bytes_before, outcome_of_read}
 use Rattle.chunk_store.specs.Asks.{Ask}
 use Rattle.chunk_store.specs.declared.store.Store.{Ghosts as StoreWords}
 use Rattle.command_outcome.specs.declared.outcome.Outcome.{Outcome}
@@ -47,7 +47,7 @@ part_stops store from m i old now p q rules listed starts ends same why stop =
     })
 
 -- a part in one entry for which there was no room: nothing was read and put
-pub part_unread : {S : Type 0} (store : StoreWords S) (from m : ℕ) (old : ReaderState S) (p : Output) → old.chain.asks < 2 ^ 64 → BreaksOff store from m old old p p
+pub part_unread : {S : Type 0} (store : StoreWords S) (from m : ℕ) (old : ReaderState S) (p : Output) → old.chain.asks < 2 ^ 64 → BreaksPutting store from m old old p p
 part_unread store from m old p below = record {
   k = 0;
   m = 0;
@@ -67,7 +67,7 @@ was_put (Err io.Memory) u is P h = absurd (cc)
 -- a part in one entry that the sink refuses: a front of it was put
 module _ {S : Type 0} (store : StoreWords S) (from m i : ℕ) (old now : ReaderState S) (p q : Output) (bytes : List ℕ) (rules : Rules old.index) (listed : i < count_of old.index) (starts : start_of old.index i ≤ from) (short : from + m ≤ end_of old.index i)
     (read : ReadsTo store from m (count_of old.index) old now) (text : IsText old.index from m bytes) where
-  front_put : (j : ℕ) → j ≤ length bytes → q.taken ≡ option_map (λ t. t ++ take j bytes) p.taken → BreaksOff store from m old now p q
+  front_put : (j : ℕ) → j ≤ length bytes → q.taken ≡ option_map (λ t. t ++ take j bytes) p.taken → BreaksPutting store from m old now p q
   front_put j le taken =
       let fits : j ≤ m = (let size = text.size in omega arith) in
       record {
@@ -80,7 +80,7 @@ module _ {S : Type 0} (store : StoreWords S) (from m i : ℕ) (old now : ReaderS
         inside = λ e c. c.listed;
       }
 
-  none_put : q.taken ≡ p.taken → BreaksOff store from m old now p q
+  none_put : q.taken ≡ p.taken → BreaksPutting store from m old now p q
   none_put same = record { k = count_of old.index; m = 0; listed = omega arith; fits = omega arith; reads = read; puts = puts_none old.index from p.taken q.taken same; inside = λ e c. c.listed }
 
   pub part_refused : (r : Result Unit IoFault) → (r ≡ Err io.Failed → (j : ℕ) × (j ≤ length bytes) × (q.taken ≡ option_map (λ t. t ++ take j bytes) p.taken)) → (r ≡ Err io.Memory → q.taken ≡ p.taken) → (r ≡ Err io.Failed → Rose p.faults q.faults) → (r ≡ Err io.Memory → q.faults ≡ p.faults)
@@ -182,7 +182,7 @@ module _ {S : Type 0} (store : StoreWords S) (at n i done m : ℕ) (old mid new 
       }
 
   -- putting ends in it
-  breaks_there : BreaksOff store from m here new q r → BreaksOff store at n old new p r
+  breaks_there : BreaksPutting store from m here new q r → BreaksPutting store at n old new p r
   breaks_there h = elim (cases_lt i h.k) [
     | inl more ↦ record {
       k = i + 1;

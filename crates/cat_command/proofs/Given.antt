@@ -7,7 +7,7 @@ use Rattle.std.specs.Str.{bytes_eq}
 use Rattle.caibx_codec.specs.Listing.{Listing, Rules, count_of}
 use Rattle.cat_command.proofs.Parts.{before_entry, covered_wider}
 use Rattle.cat_command.proofs.Pieces.{puts_none}
-use Rattle.cat_command.specs.Putting.{BreaksOff, EndsGiving, EndsPutting, PutsGiven, PutsRange, PutsUntil, StopsAtEntry, bytes_before, chunk_at}
+use Rattle.cat_command.specs.Putting.{BreaksPutting, EndsGiving, EndsPutting, PutsGiven, PutsRange, PutsUntil, StopsAtEntry, bytes_before, chunk_at}
 use Rattle.chunk_store.specs.Said.{AskedOnce}
 use Rattle.chunk_store.specs.declared.id.ChunkId.{ChunkId}
 use Rattle.chunk_store.specs.declared.id.DigestKind.{DigestKind}
@@ -140,7 +140,7 @@ module _ {S : Type 0} (store : StoreWords S) (at n : ℕ) (l : Listing) (c : Cha
   range_given : PutsRange store at n old now p q → PutsGiven store l at n c now.chain p q n
   range_given h = record { fits = omega arith; puts = h.puts; given = λ i covered. got now (want_of l i) (h.reads.had i covered.listed covered) }
 
-  off_given : (h : BreaksOff store at n old now p q) → PutsGiven store l at n c now.chain p q h.m
+  off_given : (h : BreaksPutting store at n old now p q) → PutsGiven store l at n c now.chain p q h.m
   off_given h = record { fits = h.fits; puts = h.puts; given = λ i covered. got now (want_of l i) (h.reads.had i (h.inside i covered) (covered_wider l at n at h.m (omega arith) (omega (arith, h.fits)) i covered)) }
 
   module _ (rules : Rules l) (why : ReadRefused) (h : StopsAtEntry store at n old now p q why) where

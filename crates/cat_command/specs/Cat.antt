@@ -42,9 +42,9 @@ kept_chunks = 8
 abbrev pub asked_times : Listing → ℕ → ℕ → List ℕ → ℕ
 asked_times l at n id = count_by (λ w. bytes_eq w.id.0 id) (missed kept_chunks [] (wants_of l at n))
 
--- all stores are folders that tell their files, and P holds of these
-abbrev pub WhereTold : Storage → List Location → (List (Map (List ℕ)) → Type 0) → Type 0
-WhereTold w stores P =
+-- P holds of the files of the stores, if all are folders that tell them
+abbrev pub IfFolders : Storage → List Location → (List (Map (List ℕ)) → Type 0) → Type 0
+IfFolders w stores P =
     IfSome w.disk.folders (λ m. (fs : List (Map (List ℕ))) → map (location_files m) stores ≡ map Some fs → P fs)
 
 -- a store has shown the chunk of entry i
@@ -55,7 +55,7 @@ module _ (stores : List Location) (l : Listing) (at n : ℕ) (w v : World) where
   -- a store gave the chunk of entry i
   pub record IsGivenEntry (i : ℕ) : Type 0 where
     pub shown : Any (λ s. HasShownEntry l i (said_at (storage_of w) (storage_of v) s)) stores
-    pub held : WhereTold (storage_of w) stores (λ fs. SomeGivesEntry l i (map chunks fs))
+    pub held : IfFolders (storage_of w) stores (λ fs. SomeGivesEntry l i (map chunks fs))
 
   -- the first m bytes of the range were put, whose chunks the stores gave. Where these are folders that tell, they are
   -- those of the image of the stores
@@ -63,7 +63,7 @@ module _ (stores : List Location) (l : Listing) (at n : ℕ) (w v : World) where
     pub fits : m ≤ n
     pub text : List ℕ
     pub bytes : IsText l at m text
-    pub exactly : WhereTold (storage_of w) stores (λ fs. IsRange l at m (image_of_stores l (map chunks fs)) text)
+    pub exactly : IfFolders (storage_of w) stores (λ fs. IsRange l at m (image_of_stores l (map chunks fs)) text)
     pub taken : v.out.taken ≡ option_map (λ t. t ++ text) w.out.taken
     pub given : (i : ℕ) → IsCovered l at m i → IsGivenEntry i
 
@@ -73,8 +73,9 @@ module _ (stores : List Location) (l : Listing) (at n : ℕ) (w v : World) where
     pub id_is : id ≡ (want_of l k).id
     pub puts : PutsFirst (bytes_before l at k)
     pub said : HaveLacked (chunk_at (kind_of l) l k) (storage_of w) (storage_of v) stores r
-    pub lacks : WhereTold (storage_of w) stores (λ fs. LacksAll (chunk_at (kind_of l) l k) (map chunks fs) r)
+    pub lacks : IfFolders (storage_of w) stores (λ fs. LacksAll (chunk_at (kind_of l) l k) (map chunks fs) r)
 
+  -- how putting the range ends. Want of memory has failed no call on the output
   abbrev pub EndsRange : Result Unit Outcome → Type 0
   EndsRange (Ok u) = PutsFirst n
   EndsRange (Err (ends.Missing k id)) = PutsBefore k id refused.Missing
@@ -91,11 +92,13 @@ RangePut stores l at n w r v = EndsRange stores l at n w v r
     × EachDialed (AsksOnly (asked_times l at n) (λ id. 0) (IsCoveredGet l at n)) stores w.dial.ended v.dial.ended
     × (w.out.faults ≤ v.out.faults)
 
+-- the stores are opened before any byte is put
 abbrev pub PutFrom : List Location → Listing → ℕ → ℕ → Step World Unit
 PutFrom stores l at n = do
   _ ← OnDisk (SourcesOpened stores)
   RangePut stores l at n
 
+-- the range from OFFSET on is put, LENGTH bytes of it where LENGTH is given
 abbrev pub CatEnds : List Location → ℕ → Option ℕ → List ℕ → Step World Unit
 CatEnds stores offset length index = do
   l ← OnStorage (IndexGot index)

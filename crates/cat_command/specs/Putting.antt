@@ -65,7 +65,7 @@ module _ {S : Type 0} (store : StoreWords S) (at n : ℕ) (old now : ReaderState
     pub puts : PutsText old.index at (bytes_before old.index at stop.entry) p.taken q.taken
 
   -- the first m bytes of the range, for which no more than the first k entries are read
-  pub record BreaksOff : Type 0 where
+  pub record BreaksPutting : Type 0 where
     pub k : ℕ
     pub m : ℕ
     pub listed : k ≤ count_of old.index
@@ -80,8 +80,8 @@ module _ {S : Type 0} (store : StoreWords S) (at n : ℕ) (old now : ReaderState
   EndsPutting (Err (ends.Missing k id)) = StopsAtEntry (reads.Missing k id)
   EndsPutting (Err (ends.Damaged k id s x)) = StopsAtEntry (reads.Damaged k id s x)
   EndsPutting (Err (ends.StoreFault s)) = StopsAtEntry (reads.StoreFault s)
-  EndsPutting (Err ends.OutFault) = Rose p.faults q.faults × BreaksOff
-  EndsPutting (Err ends.Memory) = (StopsAtEntry reads.Memory ⊎ BreaksOff) × (q.faults ≡ p.faults)
+  EndsPutting (Err ends.OutFault) = Rose p.faults q.faults × BreaksPutting
+  EndsPutting (Err ends.Memory) = (StopsAtEntry reads.Memory ⊎ BreaksPutting) × (q.faults ≡ p.faults)
   EndsPutting (Err other) = ⊥
 
 -- ---- by stores that nothing is kept of, which go from c to d
@@ -104,6 +104,7 @@ module _ {S : Type 0} (store : StoreWords S) (l : Listing) (at n : ℕ) (c d : C
     pub lacks : (maps : List (Map (List ℕ))) → map store.holds c.stores ≡ map Some maps
         → LacksAll (chunk_at c.kind l k) maps r
 
+  -- how putting the range ends
   abbrev pub EndsGiving : Result Unit Outcome → Type 0
   EndsGiving (Ok u) = PutsGiven n
   EndsGiving (Err (ends.Missing k id)) = PutsUntil k id refused.Missing

@@ -34,69 +34,44 @@ use Rattle.command_line.proofs.Passing.{operands_pass, values_pass}
 
 -- ---- the rows that limit
 
-stores_of_extract : times_of command.Extract option.Store ≡ times 1 16
-unfolding times_of command_rows
-stores_of_extract = refl
+record Rows : Type 0 where
+  stores_of_extract : times_of command.Extract option.Store ≡ times 1 16
+  seeds_of_extract : times_of command.Extract option.Seed ≡ times 0 64
+  stores_of_cache : times_of command.Cache option.Store ≡ times 1 16
+  stores_of_info : times_of command.Info option.Store ≡ times 0 16
+  stores_of_cat : times_of command.Cat option.Store ≡ times 1 16
+  names_of_make : takes_of command.Make ≡ written_index
+  names_of_extract : takes_of command.Extract ≡ names 2 2 1
+  names_of_cat : takes_of command.Cat ≡ names 1 1 1
+  names_of_verify_index : takes_of command.VerifyIndex ≡ names 2 2 1
+  names_of_chop : takes_of command.Chop ≡ names 2 2 1
+  names_of_cache : takes_of command.Cache ≡ names 1 64 64
+  names_of_list_chunks : takes_of command.ListChunks ≡ names 1 1 1
+  names_of_info : takes_of command.Info ≡ names 1 1 1
+  names_of_prune : takes_of command.Prune ≡ folder_and_indexes 1 64
+  store_takes : takes_value option.Store ≡ true
+  seed_takes : takes_value option.Seed ≡ true
 
-seeds_of_extract : times_of command.Extract option.Seed ≡ times 0 64
-unfolding times_of command_rows
-seeds_of_extract = refl
-
-stores_of_cache : times_of command.Cache option.Store ≡ times 1 16
-unfolding times_of command_rows
-stores_of_cache = refl
-
-stores_of_info : times_of command.Info option.Store ≡ times 0 16
-unfolding times_of command_rows
-stores_of_info = refl
-
-stores_of_cat : times_of command.Cat option.Store ≡ times 1 16
-unfolding times_of command_rows
-stores_of_cat = refl
-
-names_of_make : takes_of command.Make ≡ written_index
-unfolding takes_of command_rows
-names_of_make = refl
-
-names_of_extract : takes_of command.Extract ≡ names 2 2 1
-unfolding takes_of command_rows
-names_of_extract = refl
-
-names_of_cat : takes_of command.Cat ≡ names 1 1 1
-unfolding takes_of command_rows
-names_of_cat = refl
-
-names_of_verify_index : takes_of command.VerifyIndex ≡ names 2 2 1
-unfolding takes_of command_rows
-names_of_verify_index = refl
-
-names_of_chop : takes_of command.Chop ≡ names 2 2 1
-unfolding takes_of command_rows
-names_of_chop = refl
-
-names_of_cache : takes_of command.Cache ≡ names 1 64 64
-unfolding takes_of command_rows
-names_of_cache = refl
-
-names_of_list_chunks : takes_of command.ListChunks ≡ names 1 1 1
-unfolding takes_of command_rows
-names_of_list_chunks = refl
-
-names_of_info : takes_of command.Info ≡ names 1 1 1
-unfolding takes_of command_rows
-names_of_info = refl
-
-names_of_prune : takes_of command.Prune ≡ folder_and_indexes 1 64
-unfolding takes_of command_rows
-names_of_prune = refl
-
-store_takes : takes_value option.Store ≡ true
-unfolding takes_value option_rows
-store_takes = refl
-
-seed_takes : takes_value option.Seed ≡ true
-unfolding takes_value option_rows
-seed_takes = refl
+rows : Rows
+unfolding times_of command_rows takes_of takes_value option_rows
+rows = record {
+  stores_of_extract = refl;
+  seeds_of_extract = refl;
+  stores_of_cache = refl;
+  stores_of_info = refl;
+  stores_of_cat = refl;
+  names_of_make = refl;
+  names_of_extract = refl;
+  names_of_cat = refl;
+  names_of_verify_index = refl;
+  names_of_chop = refl;
+  names_of_cache = refl;
+  names_of_list_chunks = refl;
+  names_of_info = refl;
+  names_of_prune = refl;
+  store_takes = refl;
+  seed_takes = refl;
+}
 
 -- ---- what is missing once all words have passed
 
@@ -126,7 +101,7 @@ counts k words roles p none =
     let values : (o : OptionKind) → takes_value o ≡ true → times_of_role (role.Value o) roles ≡ times_of_role (role.Given o) roles
     = λ o takes. subst (λ r. times_of_role (role.Value o) r ≡ times_of_role (role.Given o) r) (sym p.roles_are) (values_counted k words o takes p.pass p.ended) in
     record {
-      least = omega (arith, ltb-false _ _ enough.0, values option.Store store_takes);
+      least = omega (arith, ltb-false _ _ enough.0, values option.Store rows.store_takes);
       greatest = λ o takes. omega (arith, values o takes, subst (λ r. times_of_role (role.Given o) r ≤ (times_of k o).greatest) (sym p.roles_are) (options_bounded k words o p.pass));
       operands_least = omega (arith, ltb-false _ _ enough.1);
       operands_greatest = λ names. subst (λ r. times_of_role role.Operand r ≤ (takes_of k).operands.greatest) (sym p.roles_are) (operands_bounded k words names p.pass);
@@ -250,44 +225,44 @@ seeds_all k roles words c =
 
 index_of_make : (roles : List Role) (words : List (List ℕ)) → Counts command.Make roles words → is_index_url (operand 0 (by_role roles words)) ≡ false
 unfolding Names
-index_of_make roles words c = index_at command.Make roles words written_index 0 c names_of_make refl (omega arith) (omega (arith, c.operands_least, ap (λ t. t.operands.least) names_of_make))
+index_of_make roles words c = index_at command.Make roles words written_index 0 c rows.names_of_make refl (omega arith) (omega (arith, c.operands_least, ap (λ t. t.operands.least) rows.names_of_make))
 
 kept : (k : CommandKind) (roles : List Role) (words : List (List ℕ)) → Counts k roles words → Fits (command_by_roles k (by_role roles words))
 kept command.Make roles words c = index_of_make roles words c
 kept command.Extract roles words c =
     let stores = stores_counted command.Extract roles words c in (
-      omega (arith, stores, c.least, ap (λ t. t.least) stores_of_extract),
-      omega (arith, stores, c.greatest option.Store store_takes, ap (λ t. t.greatest) stores_of_extract),
-      omega (arith, c.as_many (role.Value option.Seed), c.greatest option.Seed seed_takes, ap (λ t. t.greatest) seeds_of_extract),
+      omega (arith, stores, c.least, ap (λ t. t.least) rows.stores_of_extract),
+      omega (arith, stores, c.greatest option.Store rows.store_takes, ap (λ t. t.greatest) rows.stores_of_extract),
+      omega (arith, c.as_many (role.Value option.Seed), c.greatest option.Seed rows.seed_takes, ap (λ t. t.greatest) rows.seeds_of_extract),
       seeds_all command.Extract roles words c,
-      index_first command.Extract roles words 1 c names_of_extract,
+      index_first command.Extract roles words 1 c rows.names_of_extract,
     )
 kept command.Cat roles words c =
     let stores = stores_counted command.Cat roles words c in (
-      omega (arith, stores, c.least, ap (λ t. t.least) stores_of_cat),
-      omega (arith, stores, c.greatest option.Store store_takes, ap (λ t. t.greatest) stores_of_cat),
-      index_first command.Cat roles words 0 c names_of_cat,
+      omega (arith, stores, c.least, ap (λ t. t.least) rows.stores_of_cat),
+      omega (arith, stores, c.greatest option.Store rows.store_takes, ap (λ t. t.greatest) rows.stores_of_cat),
+      index_first command.Cat roles words 0 c rows.names_of_cat,
     )
-kept command.VerifyIndex roles words c = index_first command.VerifyIndex roles words 1 c names_of_verify_index
-kept command.Chop roles words c = index_first command.Chop roles words 1 c names_of_chop
+kept command.VerifyIndex roles words c = index_first command.VerifyIndex roles words 1 c rows.names_of_verify_index
+kept command.Chop roles words c = index_first command.Chop roles words 1 c rows.names_of_chop
 kept command.Cache roles words c =
     let stores = stores_counted command.Cache roles words c in (
-      omega (arith, stores, c.least, ap (λ t. t.least) stores_of_cache),
-      omega (arith, stores, c.greatest option.Store store_takes, ap (λ t. t.greatest) stores_of_cache),
-      omega (arith, c.as_many role.Operand, c.operands_least, ap (λ t. t.operands.least) names_of_cache),
-      omega (arith, c.as_many role.Operand, c.operands_greatest (ap (λ t. t.takes_numbers) names_of_cache), ap (λ t. t.operands.greatest) names_of_cache),
-      indexes_all command.Cache roles words (names 1 64 64) c names_of_cache refl refl (omega arith),
+      omega (arith, stores, c.least, ap (λ t. t.least) rows.stores_of_cache),
+      omega (arith, stores, c.greatest option.Store rows.store_takes, ap (λ t. t.greatest) rows.stores_of_cache),
+      omega (arith, c.as_many role.Operand, c.operands_least, ap (λ t. t.operands.least) rows.names_of_cache),
+      omega (arith, c.as_many role.Operand, c.operands_greatest (ap (λ t. t.takes_numbers) rows.names_of_cache), ap (λ t. t.operands.greatest) rows.names_of_cache),
+      indexes_all command.Cache roles words (names 1 64 64) c rows.names_of_cache refl refl (omega arith),
     )
-kept command.ListChunks roles words c = index_first command.ListChunks roles words 0 c names_of_list_chunks
+kept command.ListChunks roles words c = index_first command.ListChunks roles words 0 c rows.names_of_list_chunks
 kept command.Info roles words c = (
-  omega (arith, stores_counted command.Info roles words c, c.greatest option.Store store_takes, ap (λ t. t.greatest) stores_of_info),
-  index_first command.Info roles words 0 c names_of_info,
+  omega (arith, stores_counted command.Info roles words c, c.greatest option.Store rows.store_takes, ap (λ t. t.greatest) rows.stores_of_info),
+  index_first command.Info roles words 0 c rows.names_of_info,
 )
 kept command.Verify roles words c = tt
 kept command.Prune roles words c = (
-  omega (arith, c.as_many role.Operand, c.operands_least, ap (λ t. t.operands.least) names_of_prune),
-  omega (arith, c.as_many role.Operand, c.operands_greatest (ap (λ t. t.takes_numbers) names_of_prune), ap (λ t. t.operands.greatest) names_of_prune),
-  indexes_all command.Prune roles words (folder_and_indexes 1 64) c names_of_prune refl refl (omega arith),
+  omega (arith, c.as_many role.Operand, c.operands_least, ap (λ t. t.operands.least) rows.names_of_prune),
+  omega (arith, c.as_many role.Operand, c.operands_greatest (ap (λ t. t.takes_numbers) rows.names_of_prune), ap (λ t. t.operands.greatest) rows.names_of_prune),
+  indexes_all command.Prune roles words (folder_and_indexes 1 64) c rows.names_of_prune refl refl (omega arith),
 )
 kept command.ChunkServer roles words c = tt
 kept command.IndexServer roles words c = tt

@@ -3,7 +3,7 @@ use Rattle.std.proofs.Common.{ap, arith, ◌⊎◌, ◌++◌, ◌≡◌, ◌∙�
 use Rattle.std.specs.Option.{option_map}
 use Rattle.caibx_codec.proofs.Rules.{rules_hold}
 use Rattle.caibx_codec.specs.Listing.{Listing, Rules, kind_of, size_of}
-use Rattle.cat_command.specs.Cat.{CatEnds, PutFrom, PutsBefore, PutsFirst, RangePut, WhereTold, range_size}
+use Rattle.cat_command.specs.Cat.{CatEnds, PutFrom, PutsBefore, PutsFirst, RangePut, IfFolders, range_size}
 use Rattle.cat_command.specs.Putting.{bytes_before, chunk_at}
 use Rattle.chunk_store.specs.Folders.{chunks}
 use Rattle.chunk_store.specs.declared.id.ChunkId.{ChunkId}
@@ -36,7 +36,7 @@ module _ (x : Contents) (w v : World) (quiet : IsQuiet w v) where
     maps = map chunks fs
 
     -- what holds where all stores tell
-    told : (P : List (Map (List ℕ)) → Type 0) → WhereTold (storage_of u) stores P → P fs
+    told : (P : List (Map (List ℕ)) → Type 0) → IfFolders (storage_of u) stores P → P fs
     told P h =
         let W : Option (Map (Map (List ℕ))) → Type 0 = λ f. IfSome f (λ m. (fs : List (Map (List ℕ))) → map (location_files m) stores ≡ map Some fs → P fs) in
         let at_folders : W (Some x.folders) = subst W here.has.folders h in
