@@ -65,6 +65,22 @@ fn room_of_body(kind: BodyKind, most: usize) -> Option<usize>
     }
 }
 
+// The room for a body. `BodyTooLong`: its Content-Length is above `most`.
+fn room_for(alloc: Global, kind: BodyKind, most: usize) -> Result<Vec<u8>, Unfetched>
+    ensures ok { IfOk result (λ v. (length v.items ≡ room_of_body most kind) × (length v.items ≤ most)) }
+    ensures fits { IfOk result (λ v. tells_more most kind ≡ false) }
+    ensures err { IfErr result (λ why. (why ≡ Unfetched.Memory)
+        ⊎ ((why ≡ Unfetched.Wire WireFault.BodyTooLong) × (tells_more most kind ≡ true))) }
+{
+    let Some(size) = room_of_body(kind, most) else {
+        return Err(Unfetched::Wire(WireFault::BodyTooLong));
+    };
+    match vec![in alloc; 0u8; size] {
+        Ok(room) => Ok(room),
+        Err(_) => Err(Unfetched::Memory),
+    }
+}
+
 // Takes the room for the body behind this head, and receives it.
 fn body_behind<K: Link>(
     alloc: Global,
@@ -88,11 +104,9 @@ fn body_behind<K: Link>(
     ensures kept { Receives (K.state link.old).traffic (K.state link.new).traffic }
     ensures faults { CountsFetch Unfetched.Failed (K.state link.old).faults (K.state link.new).faults result }
 {
-    let Some(size) = room_of_body(reply.head.body, most) else {
-        return Err(Unfetched::Wire(WireFault::BodyTooLong));
-    };
-    let Ok(mut out) = vec![in alloc; 0u8; size] else {
-        return Err(Unfetched::Memory);
+    let mut out = match room_for(alloc, reply.head.body, most) {
+        Ok(out) => out,
+        Err(why) => return Err(why),
     };
     match read_body(link, reply.head.body, reply.received, buffer, &mut out) {
         Ok(n) => {

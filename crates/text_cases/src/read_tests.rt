@@ -9,6 +9,7 @@ use chunk_store::store::{GetFault, Store, StoreWrite};
 use dsy_base::dial::Dial;
 use dsy_base::fault::{IoFault, Memory};
 use dsy_base::name::Name;
+use http_fetch::fetch::fetch;
 use http_frames::fault::WireFault;
 use http_read::fault::BadReply;
 use http_read::store::HttpStore;
@@ -235,6 +236,18 @@ fn its_own_server_is_dialed_alone(rt: HostRuntime) {
     let mut out = [0u8; 3];
     same(&rt, s.get(&abc(&rt), &mut out), Ok(3));
     same(&rt, s.into_dial().elsewhere, false);
+}
+
+#[test]
+fn a_fetch_dials_its_own_server(rt: HostRuntime) {
+    let alloc = rt.alloc();
+    let mut dial = Noting {
+        inner: dialer(&rt, alloc, CHUNKED, 4096),
+        elsewhere: false,
+    };
+    let body = ok(&rt, fetch(alloc, &mut dial, "localhost", 8080, "/a", 3));
+    same(&rt, body.as_slice(), &b"abc"[..]);
+    same(&rt, dial.elsewhere, false);
 }
 
 #[test]
