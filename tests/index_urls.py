@@ -5,14 +5,13 @@ The servers listen on the loopback interface alone: nginx, which serves a folder
 `desync index-server`, and those of this script, which answer as no server should.
 """
 
-import contextlib
 import os
 import sys
 
 import formats
 import program
 import servers
-from checks import (Cases, Skip, expect, expect_ended, expect_equal, expect_files, expect_untouched, file_bytes,
+from checks import (Cases, expect, expect_ended, expect_equal, expect_files, expect_untouched, file_bytes,
                     needs_program, put_file, snapshot)
 from http_stores import Image, files, nginx
 from servers import in_chunks, reply, to_the_end
@@ -43,6 +42,8 @@ def one_file(path, answer):
 def run_all(image, index, stores):
     """Every command that reads an INDEX, with its URL, and `stores` as the options of stores."""
     expect_ended(image.run('list-chunks', index), out=formats.listed(image.index))
+    printed = image.run('cat', *stores, index)
+    expect(printed.status == 0 and printed.out == image.bytes, f'cat ended with {printed.err!r}')
     expect_ended(image.run('info', index), out=formats.figures(image.index))
     expect_ended(image.run('info', *stores, index), out=image.figures(20))
     expect_ended(image.run('verify-index', index, 'image'))
@@ -61,15 +62,6 @@ def run_all(image, index, stores):
     image.expect_store('none')
 
 
-@contextlib.contextmanager
-def index_server(image):
-    """`desync index-server` over the folder `pub`, if the program has that command; gives its address."""
-    if program.run(['index-server', '--help'], image.folder).status:
-        raise Skip('the program has no index-server')
-    with servers.ChunkServer(image.folder, store='pub', command='index-server') as server:
-        yield server.url()
-
-
 def commands(cases):
     with cases.case('every command, over nginx with indexes and chunks side by side') as folder:
         image = Image(folder)
@@ -82,9 +74,10 @@ def commands(cases):
     with cases.case('every command, over index-server, and chunk-server beside it') as folder:
         image = Image(folder)
         served(image)
-        with index_server(image) as indexes, servers.ChunkServer(folder, store='pub') as chunks:
-            run_all(image, f'{indexes}/disk.caibx', ['-s', chunks.url()])
-            expect_ended(image.run('list-chunks', f'{indexes}/other.caibx'), f'{indexes}/other.caibx: no such file')
+        with servers.IndexServer(folder, store='pub') as indexes, servers.ChunkServer(folder, store='pub') as chunks:
+            run_all(image, indexes.url('/disk.caibx'), ['-s', chunks.url()])
+            other = indexes.url('/other.caibx')
+            expect_ended(image.run('list-chunks', other), f'{other}: no such file')
     with cases.case('an index from a URL, and chunks from a folder') as folder:
         image = Image(folder)
         with one_file('/a/b%20c.caibx', reply(200, spelled(image))) as server:
@@ -137,8 +130,6 @@ def replies(cases):
 
 def refused(cases):
     """A reply that isn't taken: the program tells the URL as it was typed, and changes nothing."""
-    image_of = {}
-
     def wrongs(image):
         right = spelled(image)
         longer = reply(200, length=FILE_LIMIT + 1)
@@ -165,7 +156,7 @@ def refused(cases):
         return text.removeprefix(': ')
 
     with cases.case('replies that are no index') as folder:
-        image = image_of.setdefault('image', Image(folder))
+        image = Image(folder)
         before = files(folder)
         for what, answer, why in wrongs(image):
             with one_file('/x', answer) as server:
@@ -174,9 +165,10 @@ def refused(cases):
                 text = f'{url}: {why or text_of(answer)}'
                 for words in (['list-chunks', url], ['info', url], ['verify-index', url, 'image'],
                               ['chop', '-s', 'none', url, 'image'], ['prune', '-s', 'all', '-y', url],
-                              ['cache', '-s', 'all', '-c', 'near', url], ['extract', '-s', 'all', url, 'out']):
+                              ['cache', '-s', 'all', '-c', 'near', url], ['extract', '-s', 'all', url, 'out'],
+                              ['cat', '-s', 'all', url]):
                     expect_ended(image.run(*words), text, what=f'{words[0]} where there is {what}')
-                expect_equal(len(server.asked), 7, f'the number of asks where there is {what}')
+                expect_equal(len(server.asked), 8, f'the number of asks where there is {what}')
         expect_equal(files(folder), before, 'what stands in the folder')
     with cases.case('a server that is down') as folder:
         image = Image(folder)
