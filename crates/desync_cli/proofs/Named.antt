@@ -264,7 +264,7 @@ module _ (n : ℕ) where
   served_tells h q held served short d e other t = absurd t.0
 
   pub served : (h : Heard) (q : List ℕ) (held : Option (Map (List ℕ))) (served short : FolderServing) → Shorts n (FolderServed h q held served short)
-  served h q held served short = record { short = served_tells h q held served short }
+  served h q held done short = record { short = served_tells h q held done short }
 
   written_tells : (q bytes : List ℕ) → length q ≤ n → Tells n (IndexWritten q bytes)
   written_tells q bytes le d e o h = not_written q le d e o h.0

@@ -294,7 +294,7 @@ module _ (x : Contents) (w v : World) (quiet : IsQuiet w v) where
         elim (index_unread x u.disk v.disk at.has.files (file_unrisen x w u v at quiet) q o k.0) [ inl none ↦ inl none | inr ends ↦ inr (λ next. ends (then_more n names next)) ],
         (at_read x w u v at k.1 h.1).has,
       )
-  indexes_not_had n (q ∷ names) files u o at (inr h) = go h.then where
+  indexes_not_had n (q ∷ names) files u o at (inr h) = go (λ m mid here z. indexes_not_had m names both.1 mid o here z) h.then where
     both : IsTrue (is_file q) × IsTrue (are_files names)
     both = both_files (is_file q) (are_files names) files
 
@@ -304,16 +304,17 @@ module _ (x : Contents) (w v : World) (quiet : IsQuiet w v) where
     is : IsListed x.files q h.gave
     is = subst (λ f. IfSome f (λ m. IsListed m q h.gave)) at.has.files one.0
 
-    go : (Pure (CountedWith n h.gave) >>= (λ m. IndexesGot m names >>= (λ ls. Pure (λ r. r ≡ Ok (h.gave ∷ ls))))) (world h.disk h.dial h.out) (Err o) v
+    go : ((m : ℕ) (mid : World) → IsAt x w mid → IndexesGot m names mid (Err o) v → ((o ≡ ends.Memory) ⊎ ((next : List Listing → Ending) → indexes_at m names next x o x)) × HasContents v x)
+        → (Pure (CountedWith n h.gave) >>= (λ m. IndexesGot m names >>= (λ ls. Pure (λ r. r ≡ Ok (h.gave ∷ ls))))) (world h.disk h.dial h.out) (Err o) v
         → ((o ≡ ends.Memory) ⊎ ((next : List Listing → Ending) → indexes_at n (q ∷ names) next x o x)) × HasContents v x
-    go (inl k) = (not_counted n q names h.gave o is k.0, (subst (IsAt x w) (sym k.1) one.1).has)
-    go (inr k) = later k.then where
+    go more (inl k) = (not_counted n q names h.gave o is k.0, (subst (IsAt x w) (sym k.1) one.1).has)
+    go more (inr k) = later k.then where
       mid : World
       mid = world k.disk k.dial k.out
 
       later : (IndexesGot k.gave names >>= (λ ls. Pure (λ r. r ≡ Ok (h.gave ∷ ls)))) mid (Err o) v → ((o ≡ ends.Memory) ⊎ ((next : List Listing → Ending) → indexes_at n (q ∷ names) next x o x)) × HasContents v x
       later (inl z) =
-          let rest = indexes_not_had k.gave names both.1 mid o (subst (IsAt x w) (sym k.did.1) one.1) z in (
+          let rest = more k.gave mid (subst (IsAt x w) (sym k.did.1) one.1) z in (
             elim rest.0 [
               | inl none ↦ inl none
               | inr ends ↦ inr (λ next. index_there x q h.gave (then_more n names next) o x is (inr (
