@@ -1,8 +1,8 @@
 -- How the stores of all workers are asked while a cache is filled by indexes in order.
-use Rattle.std.proofs.Common.{◌≡◌, ℕ, ◌+◌, ◌≤◌, List, [], ◌∷◌, All, ap, map, max, IfSome, inl, inr, refl, sym, subst, ◌∙◌, arith}
+use Rattle.std.proofs.Common.{◌≡◌, ℕ, ◌+◌, ◌≤◌, List, [], ◌∷◌, All, ap, map, max, inl, inr, refl, sym, subst, ◌∙◌, arith}
 use Rattle.std.proofs.lemmas.List.Elements.{All-cons, All-head, All-nil, All-tail}
 use Rattle.std.specs.List.{AllZip}
-use Rattle.cache_command.specs.Caching.{FilledBetween, FrontListed, IsGetAmong, listed_times}
+use Rattle.cache_command.specs.Caching.{FilledBetween, FrontSpelled, IsGetAmong, listed_times}
 use Rattle.cache_command.specs.Filling.{AsksListings, HoldAlike}
 use Rattle.cache_fill.specs.Filling.{AsksEntries, FetchesAhead}
 use Rattle.caibx_codec.specs.Asks.{IsListedGet}
@@ -10,11 +10,9 @@ use Rattle.caibx_codec.specs.Listing.{Listing, count_of}
 use Rattle.chunk_store.specs.declared.store.Store.{Ghosts as StoreWords}
 use Rattle.command_outcome.specs.declared.outcome.Outcome.{Outcome}
 use Rattle.command_steps.proofs.Asking.{none_more}
-use Rattle.command_steps.specs.InputFiles.{IsListed, Listed}
+use Rattle.command_indexes.proofs.Spelled.{IsPart, spells_wider}
 use Rattle.command_steps.specs.Sources.{Storage}
 use Rattle.command_words.specs.declared.command.Location.{Location}
-use Rattle.command_worlds.specs.Worlds.{Reads}
-use Rattle.dsy_base.specs.Disk.{Disk}
 use Rattle.image_chop.specs.Chopping.{AsksListed}
 use Rattle.std.specs.Prelude.{Result}
 use Rattle.store_chain.proofs.Kept.{kept_on, kept_still, kept_weaker}
@@ -22,14 +20,11 @@ use Rattle.store_chain.proofs.Pairs.{all_zip_same}
 use Rattle.store_chain.specs.Chains.{Chained, KeepsStores}
 use Rattle.verify_tool.proofs.Asked.{each_then, each_weaker}
 
--- what was read of the first indexes, over a disk that held the same
-front_later : (d e : Disk) → e.files ≡ d.files → (indexes : List (List ℕ)) (ls : List Listing) → FrontListed e indexes ls → FrontListed d indexes ls
-front_later d e same indexes [] h = tt
-front_later d e same [] (l ∷ ls) h = absurd h
-front_later d e same (q ∷ indexes) (l ∷ ls) h = (subst (λ f. IfSome f (λ m. IsListed m q l)) same h.0, front_later d e same indexes ls h.1)
-
-pub front_more : (d e : Disk) (q : List ℕ) (indexes : List (List ℕ)) (l : Listing) (ls : List Listing) → Reads d e → Listed d q l → FrontListed e indexes ls → FrontListed d (q ∷ indexes) (l ∷ ls)
-front_more d e q indexes l ls read listed front = (listed, front_later d e read.files indexes ls front)
+-- what the first operands spelled, over more of a command
+pub front_wider : (w u x v : Storage) → IsPart w u x v → (indexes : List (List ℕ)) (ls : List Listing) → FrontSpelled u x indexes ls → FrontSpelled w v indexes ls
+front_wider w u x v part indexes [] h = tt
+front_wider w u x v part [] (l ∷ ls) h = absurd h
+front_wider w u x v part (q ∷ indexes) (l ∷ ls) h = (spells_wider w u x v part q l h.0, front_wider w u x v part indexes ls h.1)
 
 -- what holds of the one list holds of the other, where their elements agree
 all_through : {X : Type 0} (P Q : X → Type 0) (R : X → X → Type 0) → ((a b : X) → R a b → P a → Q b) → (xs ys : List X) → AllZip R xs ys → All P xs → All Q ys
@@ -132,9 +127,12 @@ more_workers stores cache few most indexes w v r less h = record {
   back = h.back;
   adds = h.adds;
   dials = h.dials;
+  undialed = h.undialed;
   asks = record {
     listings = h.asks.listings;
     read = h.asks.read;
+    ended = h.asks.ended;
+    fetches = h.asks.fetches;
     workers = h.asks.workers;
     some = h.asks.some;
     few = omega (arith, h.asks.few, less);

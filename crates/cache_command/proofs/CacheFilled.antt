@@ -1,6 +1,6 @@
 -- Filling a cache by indexes in order: what one of them comes to, from one to the next, and what stands when all is given
 -- back.
-use Rattle.std.proofs.Common.{◌≡◌, ◌⊎◌, ℕ, ◌≤◌, List, [], ◌∷◌, All, map, Option, Some, None, IfSome, IsSomeAnd, Result, Ok, Err, IfErr, refl, sym, subst, ap, ◌∙◌, inl, inr, arith, slice_index_or, true}
+use Rattle.std.proofs.Common.{◌≡◌, ◌⊎◌, ℕ, ◌≤◌, List, [], ◌∷◌, All, map, Option, Some, None, IfSome, IsSomeAnd, Result, Ok, Err, IfErr, refl, sym, subst, ap, ◌∙◌, inl, inr, arith, slice_index_or, ◌&&◌, Bool, true, false, IsTrue}
 use Rattle.std.specs.Map.{count_at}
 use Rattle.std.specs.Option.{option_map}
 use Rattle.cache_store.proofs.Stocked.{stocks_weaker}
@@ -12,18 +12,20 @@ use Rattle.chunk_store.specs.Said.{Said}
 use Rattle.chunk_store.specs.declared.id.ChunkId.{ChunkId}
 use Rattle.chunk_store.specs.declared.store.Store.{Ghosts as StoreWords}
 use Rattle.command_outcome.specs.declared.outcome.Outcome.{Outcome}
-use Rattle.command_outcome.specs.declared.outcome.Outcome.TheVariants as ends
 use Rattle.command_words.specs.declared.command.Location.{Location}
 use Rattle.command_steps.proofs.Cached.{given_adds}
-use Rattle.command_steps.proofs.Dialed.{dials_none}
+use Rattle.command_steps.proofs.Dialed.{dials_twice}
 use Rattle.command_steps.proofs.Given.{Stands, all_stand, folders_quiet, given_earlier}
 use Rattle.command_steps.proofs.Numbers.{given_quiet, given_rose, rose_later, rose_longer}
 use Rattle.command_steps.specs.AnyStores.{IsGiven, source_faults, source_files, location_in, said_in}
 use Rattle.command_steps.specs.Cache.{CacheGiven, CacheOpened, with_cache}
-use Rattle.command_steps.specs.InputFiles.{IsBad, IsListed, Listed, NotRead}
+use Rattle.command_indexes.proofs.Spelled.{IsPart, not_spelled_wider, spells_wider}
+use Rattle.command_indexes.specs.Places.{are_files}
+use Rattle.command_indexes.specs.Spelled.{Spells}
+use Rattle.command_steps.specs.Stores.{are_folders}
 use Rattle.command_steps.specs.Sources.{ConsultsStores, Storage, SourcesOpened, storage, location_files}
 use Rattle.command_worlds.specs.Steps.{outcome_of}
-use Rattle.command_worlds.specs.Worlds.{Adds, DiskQuiet, FileRose, FolderRose, Reads, world}
+use Rattle.command_worlds.specs.Worlds.{Adds, DiskQuiet, FolderRose, Reads, world}
 use Rattle.command_steps.specs.declared.any_store.AnyStore.{AnyStore}
 use Rattle.command_steps.proofs.Taken.{at_name_twice}
 use Rattle.command_steps.proofs.Found.{held_after}
@@ -52,6 +54,10 @@ if_told (Some x) P f = f x refl
 
 of_told : {X : Type 0} (o : Option X) (P : X → Type 0) (x : X) → o ≡ Some x → IfSome o P → P x
 of_told o P x is h = subst (λ r. IfSome r P) is h
+
+both_true : (a b : Bool) → IsTrue (a && b) → IsTrue a × IsTrue b
+both_true true b t = (refl, t)
+both_true false b t = absurd (cc)
 
 -- ---- by one index
 
@@ -162,42 +168,32 @@ module _ (a b : Evidence) (held : (fs : List (Map (List ℕ))) → b.holds fs �
     index_wider : (l : Listing) (x y : Option (Map (List ℕ))) (r : Result Unit FillFault) → IndexFilled a l x y r → IndexFilled b l x y r
     index_wider l x y r h = record { added = added_wider l x y h.added; holds = h.holds; exactly = exactly_wider l x r h.exactly; order = order_wider l x y r h.order }
 
-    -- between disks that lie within others
-    module _ (d0 e0 d e : Disk) (same : d0.files ≡ d.files) (file : (q : List ℕ) → FileRose d0 e0 q → FileRose d e q) where
-      listed_wider : (q : List ℕ) (l : Listing) → Listed d0 q l → Listed d q l
-      listed_wider q l h = subst (λ (o : Option (Map (List ℕ))). IfSome o (λ m. IsListed m q l)) same h
-
-      read_wider : (q : List ℕ) (o : Outcome) → NotRead d0 e0 q o → NotRead d e q o
-      read_wider q (ends.NoFile name) h = (h.0, subst (λ (o : Option (Map (List ℕ))). IfSome o (λ m. m q ≡ None)) same h.1)
-      read_wider q (ends.BadIndex name fault) h = (h.0, subst (λ (o : Option (Map (List ℕ))). IfSome o (λ m. (t : List ℕ) × (m q ≡ Some t) × IsBad t fault)) same h.1)
-      read_wider q (ends.FileFault name) h = (h.0, file q h.1)
-      read_wider q ends.Memory h = tt
-      read_wider q other h = absurd h
-
-      all_wider : (indexes : List (List ℕ)) (x y : Option (Map (List ℕ))) → AllFilled a d0 e0 indexes x y → AllFilled b d e indexes x y
+    -- over a part of a command
+    module _ (w0 v0 w v : Storage) (part : IsPart w w0 v0 v) where
+      all_wider : (indexes : List (List ℕ)) (x y : Option (Map (List ℕ))) → AllFilled a w0 v0 indexes x y → AllFilled b w v indexes x y
       all_wider [] x y h = h
-      all_wider (q ∷ indexes) x y (l, listed, z, filled, rest) = (l, listed_wider q l listed, z, done_wider l x z filled, all_wider indexes z y rest)
+      all_wider (q ∷ indexes) x y (l, listed, z, filled, rest) = (l, spells_wider w w0 v0 v part q l listed, z, done_wider l x z filled, all_wider indexes z y rest)
 
-      none_wider : (indexes : List (List ℕ)) (x y : Option (Map (List ℕ))) (o : Outcome) → NotFilled a d0 e0 indexes x y o → NotFilled b d e indexes x y o
+      none_wider : (indexes : List (List ℕ)) (x y : Option (Map (List ℕ))) (o : Outcome) → NotFilled a w0 v0 indexes x y o → NotFilled b w v indexes x y o
       none_wider [] x y o h = absurd h
-      none_wider (q ∷ indexes) x y o (inl h) = inl (read_wider q o h.0, h.1)
-      none_wider (q ∷ indexes) x y o (inr (l, listed, inl (fault, is, filled))) = inr (l, listed_wider q l listed, inl (fault, is, index_wider l x y (Err fault) filled))
-      none_wider (q ∷ indexes) x y o (inr (l, listed, inr (z, filled, rest))) = inr (l, listed_wider q l listed, inr (z, done_wider l x z filled, none_wider indexes z y o rest))
+      none_wider (q ∷ indexes) x y o (inl h) = inl (not_spelled_wider w w0 v0 v part q o h.0, h.1)
+      none_wider (q ∷ indexes) x y o (inr (l, listed, inl (fault, is, filled))) = inr (l, spells_wider w w0 v0 v part q l listed, inl (fault, is, index_wider l x y (Err fault) filled))
+      none_wider (q ∷ indexes) x y o (inr (l, listed, inr (z, filled, rest))) = inr (l, spells_wider w w0 v0 v part q l listed, inr (z, done_wider l x z filled, none_wider indexes z y o rest))
 
-      pub fills_wider : (indexes : List (List ℕ)) (x y : Option (Map (List ℕ))) (r : Result Unit Outcome) → FillsEach a d0 e0 indexes x y r → FillsEach b d e indexes x y r
+      pub fills_wider : (indexes : List (List ℕ)) (x y : Option (Map (List ℕ))) (r : Result Unit Outcome) → FillsEach a w0 v0 indexes x y r → FillsEach b w v indexes x y r
       fills_wider indexes x y (Ok u) h = all_wider indexes x y h
       fills_wider indexes x y (Err o) h = none_wider indexes x y o h
 
 -- the first index filled, and then the rest
-fills_next : (over : Evidence) (d e : Disk) (q : List ℕ) (indexes : List (List ℕ)) (l : Listing) (x z y : Option (Map (List ℕ))) (r : Result Unit Outcome)
-    → Listed d q l → IndexFilled over l x z (Ok tt) → FillsEach over d e indexes z y r → FillsEach over d e (q ∷ indexes) x y r
-fills_next over d e q indexes l x z y (Ok u) listed filled rest = (l, listed, z, filled, rest)
-fills_next over d e q indexes l x z y (Err o) listed filled rest = inr (l, listed, inr (z, filled, rest))
+fills_next : (over : Evidence) (w v : Storage) (q : List ℕ) (indexes : List (List ℕ)) (l : Listing) (x z y : Option (Map (List ℕ))) (r : Result Unit Outcome)
+    → Spells w v q l → IndexFilled over l x z (Ok tt) → FillsEach over w v indexes z y r → FillsEach over w v (q ∷ indexes) x y r
+fills_next over w v q indexes l x z y (Ok u) listed filled rest = (l, listed, z, filled, rest)
+fills_next over w v q indexes l x z y (Err o) listed filled rest = inr (l, listed, inr (z, filled, rest))
 
 -- the call for the first index, and the calls for the rest. The cache's count of faults goes from m0 to m1 to m2, and the
 -- stores from c0 to c1 to c2
 module _ {S : Type 0} (files : S → Option (Map (List ℕ))) (said : S → Said) (counted : S → ℕ) (m0 m1 m2 : ℕ) (c0 c1 c2 : List S) (below : m0 ≤ m1) (above : m1 ≤ m2) (same : map files c1 ≡ map files c0)
-    (fell : NoneFalls (map counted c0) (map counted c1)) (falls : NoneFalls (map counted c1) (map counted c2)) (d b e : Disk) (reads : Reads d b) where
+    (fell : NoneFalls (map counted c0) (map counted c1)) (falls : NoneFalls (map counted c1) (map counted c2)) (w u v : Storage) (part : IsPart w u v v) where
   abbrev Still : ℕ → ℕ → List S → List S → Type 0
   Still m n old new = Quiet m n × EachQuiet (map counted old) (map counted new)
 
@@ -216,12 +212,11 @@ module _ {S : Type 0} (files : S → Option (Map (List ℕ))) (said : S → Said
   abbrev all : Evidence
   all = of_calls files said counted c0 c2 m0 m2
 
-  pub fills_on : (q : List ℕ) (indexes : List (List ℕ)) (l : Listing) (x z y : Option (Map (List ℕ))) (r : Result Unit Outcome) → Listed d q l → IndexFilled first l x z (Ok tt) → FillsEach next b e indexes z y r → FillsEach all d e (q ∷ indexes) x y r
+  pub fills_on : (q : List ℕ) (indexes : List (List ℕ)) (l : Listing) (x z y : Option (Map (List ℕ))) (r : Result Unit Outcome) → Spells w v q l → IndexFilled first l x z (Ok tt) → FillsEach next u v indexes z y r → FillsEach all w v (q ∷ indexes) x y r
   fills_on q indexes l x z y r listed filled rest =
-      fills_next all d e q indexes l x z y r listed
+      fills_next all w v q indexes l x z y r listed
       (done_wider first all (λ fs told. told) (λ fs told quiet. still_first quiet) l x z filled)
-      (fills_wider next all (λ fs told. same ∙ told) (λ fs told quiet. still_next quiet) (λ c r h. h) (rose_later m0 m1 m2 below) b e d e reads.files
-      (λ n. rose_later (count_at d.file_counts n) (count_at b.file_counts n) (count_at e.file_counts n) (reads.counts n)) indexes z y r rest)
+      (fills_wider next all (λ fs told. same ∙ told) (λ fs told quiet. still_next quiet) (λ c r h. h) (rose_later m0 m1 m2 below) u v w v part indexes z y r rest)
 
 -- how filling by an index was answered
 pub fill_stopped : (over : Evidence) (l : Listing) (x y : Option (Map (List ℕ))) (r : Result Unit FillFault) (o : Outcome) → answer_of_fill r ≡ Err o → IndexFilled over l x y r
@@ -265,16 +260,17 @@ held_so (Some n) names xs fs found told = found ∙ told
 
 -- the disk was read while the cache was filled, which was s and became t; then its folder was given back, and the stores
 module _ {L D K : Type 0} (files : L → Option (Map (List ℕ))) (place : L → List ℕ) (faults : L → ℕ) (state : D → DialState) (cache : List ℕ) (s t : Shelf)
-    (d0 b c e : Disk) (k j : DialState) (names : List Location) (before after : List (AnyStore L D K))
+    (d0 b c e : Disk) (i k j : DialState) (names : List Location) (before after : List (AnyStore L D K))
     (s_is : s.place ≡ cache) (t_is : t.place ≡ cache) (reads : Reads d0 b) (gives : CacheGiven (Some t) b c) (closes : ConsultsStores names (storage c k) (storage e j))
     (fresh : map (source_faults faults state) before ≡ map (λ q. 0) names) (located : map (location_in place) after ≡ names) (same : map (source_files files) after ≡ map (source_files files) before)
     (found : IfSome (with_cache (Some s) d0).folders (λ m. map (source_files files) before ≡ map (location_files m) names))
-    (gained : All (IsGiven place faults state (storage c k) (storage e j)) after) where
+    (gained : All (IsGiven place faults state (storage c k) (storage e j)) after)
+    (part : IsPart (storage (with_cache (Some s) d0) i) (storage d0 i) (storage b k) (storage e j)) where
   abbrev d : Disk
   d = with_cache (Some s) d0
 
   abbrev w : Storage
-  w = storage d k
+  w = storage d i
 
   abbrev v : Storage
   v = storage e j
@@ -295,7 +291,7 @@ module _ {L D K : Type 0} (files : L → Option (Map (List ℕ))) (place : L →
   }
 
   given_all : All (IsGiven place faults state w v) after
-  given_all = λ n q lt. given_earlier place faults state w (storage c k) v opened (dials_none k) closes.0.dial (slice_index_or after n q) (gained n q lt)
+  given_all = λ n q lt. given_earlier place faults state w (storage c k) v opened part.during closes.0.dial (slice_index_or after n q) (gained n q lt)
 
   stand : All (Stands (location_in place) (said_in files state) (source_faults faults state) w v) after
   stand = all_stand files place faults state w v after names located (held_after d.folders names (source_files files) before after found same) given_all
@@ -316,27 +312,24 @@ module _ {L D K : Type 0} (files : L → Option (Map (List ℕ))) (place : L →
         folders_quiet files place faults state w v names fs before after fresh (same ∙ held_so d.folders names (map (source_files files) before) fs found told) given_all quiet.folders,
       )
 
-  file_failed : (q : List ℕ) → FileRose d0 b q → FileRose d e q
-  file_failed q rose =
-      let le : count_at b.file_counts q ≤ count_at e.file_counts q = omega (arith, gave.counts q, closes.0.disk.counts q) in
-      rose_longer (count_at d.file_counts q) (count_at b.file_counts q) (count_at e.file_counts q) le rose
-
   back : e.folders ≡ option_map (λ (m : Map (Map (List ℕ))). at_name m cache t.files) d.folders
   back = closes.0.disk.folders ∙ gives.0 ∙ ap (option_map (λ (m : Map (Map (List ℕ))). at_name m t.place t.files)) reads.folders
       ∙ ap (λ (q : List ℕ). option_map (λ (m : Map (Map (List ℕ))). at_name m q t.files) d0.folders) (t_is ∙ sym s_is) ∙ put_twice d0.folders s.place s.files t.files
       ∙ ap (λ (q : List ℕ). option_map (λ (m : Map (Map (List ℕ))). at_name m q t.files) d.folders) s_is
 
-  pub filled_between : (most : ℕ) (indexes : List (List ℕ)) (r : Result Unit Outcome) → FillsEach (of_calls (source_files files) (said_in files state) (source_faults faults state) before after 0 t.faults) d0 b indexes s.files t.files r → GetsListed w.disk most indexes names w.dial v.dial → FilledBetween names cache most indexes w v r
-  filled_between most indexes r h gets = record {
+  pub filled_between : (most : ℕ) (indexes : List (List ℕ)) (r : Result Unit Outcome) → FillsEach (of_calls (source_files files) (said_in files state) (source_faults faults state) before after 0 t.faults) (storage d0 i) (storage b k) indexes s.files t.files r
+      → (IsTrue (are_files indexes) → k ≡ i) → GetsListed w v most indexes names → FilledBetween names cache most indexes w v r
+  filled_between most indexes r h undialed gets = record {
     held = s.files;
     was = subst (λ (q : List ℕ). IfSome d.folders (λ m. m q ≡ s.files)) s_is (was_put d0.folders s.place s.files);
     now = t.files;
     filled = fills_wider (of_calls (source_files files) (said_in files state) (source_faults faults state) before after 0 t.faults) (of_command w v names cache)
         (λ fs told. held_so d.folders names (map (source_files files) before) fs found told) none_failed
         (λ c r h. have_lacked (location_in place) (said_in files state) (source_faults faults state) true w v names c r h.0 after h.1 located stand h.2) cache_failed
-        d0 b d e refl file_failed indexes s.files t.files r h;
+        (storage d0 i) (storage b k) w v part indexes s.files t.files r h;
     back = back;
     adds = all_adds;
-    dials = (closes.0.dial, closes.1);
+    dials = dials_twice i k j part.during closes.0.dial;
+    undialed = λ both. let each = both_true (are_folders names) (are_files indexes) both in closes.1 each.0 ∙ undialed each.1;
     asks = gets;
   }

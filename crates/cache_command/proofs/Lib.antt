@@ -3,3 +3,4 @@ pub mod AskedListings
 pub mod LentChains
 pub mod GivenChains
 pub mod AlikeChains
+pub mod Had

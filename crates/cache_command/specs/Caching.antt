@@ -1,5 +1,5 @@
 -- `cache -s STORE.. -c CACHE INDEX..`. A name is its bytes; files are a folder's, where they are told.
-use Rattle.std.specs.Prelude.{◌≡◌, ◌⊎◌, ℕ, ◌+◌, ◌<◌, ◌≤◌, List, [], ◌∷◌, length, map, max}
+use Rattle.std.specs.Prelude.{◌≡◌, ◌⊎◌, ◌&&◌, ℕ, ◌+◌, ◌<◌, ◌≤◌, List, [], ◌∷◌, length, map, max}
 use Rattle.std.specs.Prelude.{Option, Some, IfSome, IfErr, IsSomeAnd, IsTrue, true, is_some, Result, Ok, Err}
 use Rattle.std.specs.List.{AllZip, Any}
 use Rattle.std.specs.Option.{option_map}
@@ -13,17 +13,19 @@ use Rattle.chunk_store.specs.Said.{Said}
 use Rattle.chunk_store.specs.declared.id.ChunkId.{ChunkId}
 use Rattle.command_outcome.specs.declared.outcome.Outcome.{Outcome}
 use Rattle.command_outcome.specs.declared.outcome.Outcome.TheVariants as ends
+use Rattle.command_indexes.specs.Places.{are_files}
+use Rattle.command_indexes.specs.Spelled.{AsksInTurn, NotSpelled, Spells}
 use Rattle.command_steps.specs.Asking.{AsksOnly, WorkersDialed}
 use Rattle.command_steps.specs.Cache.{CacheOpened}
-use Rattle.command_steps.specs.InputFiles.{IsListed, Listed, NotRead}
-use Rattle.command_steps.specs.Sources.{DialsStores, HaveLacked, OnStorage, SourcesOpened, Storage, location_files}
+use Rattle.command_steps.specs.Dials.{Dials}
+use Rattle.command_steps.specs.Sources.{HaveLacked, OnStorage, SourcesOpened, Storage, location_files}
+use Rattle.command_steps.specs.Stores.{are_folders}
 use Rattle.command_worlds.specs.Steps.{◌>>=◌}
 use Rattle.command_worlds.specs.Worlds.{Adds, DiskQuiet, FolderRose, OnDisk, Step, World}
 use Rattle.command_words.specs.declared.command.Location.{Location}
 use Rattle.dir_store.specs.Names.{is_stranger}
 use Rattle.dsy_base.specs.Counts.{Quiet, Rose}
-use Rattle.dsy_base.specs.Disk.{Disk}
-use Rattle.dsy_base.specs.Links.{DialState}
+use Rattle.dsy_base.specs.Links.{Traffic}
 use Rattle.dsy_base.specs.Maps.{Map, at_name}
 use Rattle.image_store.specs.PutChunks.{HoldsNamed, IsListedId as IsAmong}
 use Rattle.image_chop.specs.Chopping.{times_listed}
@@ -142,18 +144,18 @@ module _ (over : Evidence) where
     pub exactly : FillExactly l x r
     pub order : IfErr r (λ fault. EndsFilling l fault x y)
 
-  -- ---- and by each in order, between these disks
+  -- ---- and by each in order, from w to v
 
-  module _ (d e : Disk) where
+  module _ (w v : Storage) where
     abbrev pub AllFilled : List (List ℕ) → Option (Map (List ℕ)) → Option (Map (List ℕ)) → Type 0
     AllFilled [] x y = y ≡ x
-    AllFilled (q ∷ indexes) x y = (l : Listing) × Listed d q l × (z : Option (Map (List ℕ))) × IndexFilled l x z (Ok tt)
+    AllFilled (q ∷ indexes) x y = (l : Listing) × Spells w v q l × (z : Option (Map (List ℕ))) × IndexFilled l x z (Ok tt)
         × AllFilled indexes z y
 
-    -- the first index that couldn't be read, or by which the cache couldn't be filled
+    -- the first index that wasn't had, or by which the cache couldn't be filled
     abbrev pub NotFilled : List (List ℕ) → Option (Map (List ℕ)) → Option (Map (List ℕ)) → Outcome → Type 0
     NotFilled [] x y o = ⊥
-    NotFilled (q ∷ indexes) x y o = (NotRead d e q o × (y ≡ x)) ⊎ ((l : Listing) × Listed d q l
+    NotFilled (q ∷ indexes) x y o = (NotSpelled w v q o × (y ≡ x)) ⊎ ((l : Listing) × Spells w v q l
         × (((fault : FillFault) × (o ≡ outcome_of_fill fault) × IndexFilled l x y (Err fault))
         ⊎ ((z : Option (Map (List ℕ))) × IndexFilled l x z (Ok tt) × NotFilled indexes z y o)))
 
@@ -163,11 +165,11 @@ module _ (over : Evidence) where
 
 -- ---- how often servers are asked
 
--- what the first of these names list, as far as they were read
-abbrev pub FrontListed : Disk → List (List ℕ) → List Listing → Type 0
-FrontListed d indexes [] = Unit {0}
-FrontListed d [] (l ∷ ls) = ⊥
-FrontListed d (q ∷ indexes) (l ∷ ls) = Listed d q l × FrontListed d indexes ls
+-- what the first of these operands spell, as far as they were read
+abbrev pub FrontSpelled : Storage → Storage → List (List ℕ) → List Listing → Type 0
+FrontSpelled w v indexes [] = Unit {0}
+FrontSpelled w v [] (l ∷ ls) = ⊥
+FrontSpelled w v (q ∷ indexes) (l ∷ ls) = Spells w v q l × FrontSpelled w v indexes ls
 
 -- how many entries list the id
 abbrev pub listed_times : List Listing → List ℕ → ℕ
@@ -179,17 +181,20 @@ abbrev pub IsGetAmong : List Listing → Ask → Type 0
 IsGetAmong [] a = ⊥
 IsGetAmong (l ∷ ls) a = IsListedGet l a ⊎ IsGetAmong ls a
 
--- up to `most` workers, or one, asked the servers. Each asked each server for the chunk of an id at most once for each
--- entry that lists it, and never whether it has one, and nothing else was sent but fronts of such requests
-pub record GetsListed (d : Disk) (most : ℕ) (indexes : List (List ℕ)) (stores : List Location) (k j : DialState)
-    : Type 0 where
+-- the URLs among the indexes were asked for in order. Up to `most` workers, or one, asked the servers of chunks. Each
+-- asked each server for the chunk of an id at most once for each entry that lists it, and never whether it has one, and
+-- nothing else was sent but fronts of such requests
+pub record GetsListed (w v : Storage) (most : ℕ) (indexes : List (List ℕ)) (stores : List Location) : Type 0 where
   pub listings : List Listing
-  pub read : FrontListed d indexes listings
+  pub read : FrontSpelled w v indexes listings
+  -- what had ended when the indexes were had
+  pub ended : Option (List Traffic)
+  pub fetches : AsksInTurn indexes w.dial.ended ended
   pub workers : ℕ
   pub some : 1 ≤ workers
   pub few : workers ≤ max 1 most
   pub gets : WorkersDialed (λ n. AsksOnly (listed_times listings) (λ id. 0) (IsGetAmong listings)) workers stores
-      k.ended j.ended
+      ended v.dial.ended
 
 -- ---- the command
 
@@ -199,11 +204,13 @@ pub record FilledBetween (stores : List Location) (cache : List ℕ) (most : ℕ
   pub held : Option (Map (List ℕ))
   pub was : IfSome w.disk.folders (λ m. m cache ≡ held)
   pub now : Option (Map (List ℕ))
-  pub filled : FillsEach (of_command w v stores cache) w.disk v.disk indexes held now r
+  pub filled : FillsEach (of_command w v stores cache) w v indexes held now r
   pub back : v.disk.folders ≡ option_map (λ m. at_name m cache now) w.disk.folders
   pub adds : Adds w.disk v.disk
-  pub dials : DialsStores stores w.dial v.dial
-  pub asks : GetsListed w.disk most indexes stores w.dial v.dial
+  pub dials : Dials w.dial v.dial
+  -- where all stores are folders, and all indexes files, no server was asked
+  pub undialed : IsTrue (are_folders stores && are_files indexes) → v.dial ≡ w.dial
+  pub asks : GetsListed w v most indexes stores
 
 abbrev pub IndexesFilled : List Location → List ℕ → ℕ → List (List ℕ) → Step Storage Unit
 IndexesFilled stores cache most indexes w r v = FilledBetween stores cache most indexes w v r
@@ -224,13 +231,13 @@ abbrev pub HoldsInOrder : List Listing → Map (List ℕ) → Type 0
 HoldsInOrder [] m = Unit {0}
 HoldsInOrder (l ∷ ls) m = ((i : ℕ) → i < count_of l → Any (HoldsListed m (id_of l i)) (l ∷ ls)) × HoldsInOrder ls m
 
--- each INDEX is an index file, and the cache's folder, which was there, holds bytes with the name of each chunk that it
--- lists. Only a later INDEX that lists the id with the other kind of digest may have put others there, which have that
--- name by its kind. No other folder has changed
-pub record IsCached (files : Map (List ℕ)) (folders folders_after : Map (Map (List ℕ))) (cache : List ℕ)
+-- each INDEX spells an index, as is said, and the cache's folder, which was there, holds bytes with the name of each
+-- chunk that it lists. Only a later INDEX that lists the id with the other kind of digest may have put others there,
+-- which have that name by its kind. No other folder has changed
+pub record IsCached (Spelled : List ℕ → Listing → Type 0) (folders folders_after : Map (Map (List ℕ))) (cache : List ℕ)
     (indexes : List (List ℕ)) : Type 0 where
   pub listings : List Listing
-  pub listed : AllZip (IsListed files) indexes listings
+  pub listed : AllZip Spelled indexes listings
   pub held : Map (List ℕ)
   pub folder_was : folders cache ≡ Some held
   pub now : Map (List ℕ)

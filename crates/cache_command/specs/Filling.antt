@@ -1,15 +1,19 @@
 -- A cache that is filled, and the chains of stores of its workers: when they may be asked, and for what they were.
-use Rattle.std.specs.Prelude.{◌≡◌, ℕ, ◌+◌, ◌≤◌, List, ◌∷◌, map, Some, IfSome, IsSome}
+use Rattle.std.specs.Prelude.{◌≡◌, ℕ, ◌+◌, ◌≤◌, List, ◌∷◌, map, Some, IfSome, IsSome, IsTrue}
 use Rattle.std.specs.List.{All, AllZip}
 use Rattle.cache_command.specs.Caching.{IsGetAmong, listed_times}
 use Rattle.cache_store.specs.Shelves.{Shelf}
 use Rattle.caibx_codec.specs.Listing.{Listing}
 use Rattle.chunk_store.specs.declared.store.Store.{Ghosts as StoreWords}
+use Rattle.command_indexes.specs.Places.{are_files}
+use Rattle.command_indexes.specs.Spelled.{AsksInTurn}
 use Rattle.command_steps.specs.AnyStores.{IsUnused, source_faults, source_files}
 use Rattle.command_steps.specs.Cache.{with_cache}
 use Rattle.cache_command.specs.Chains.{CanGiveChain, chain_stores}
-use Rattle.command_steps.specs.Sources.{location_files}
+use Rattle.command_steps.specs.Dials.{Dials}
+use Rattle.command_steps.specs.Sources.{Storage, location_files}
 use Rattle.command_steps.specs.declared.any_store.AnyStore.{AnyStore}
+use Rattle.command_worlds.specs.Worlds.{Reads}
 use Rattle.dsy_base.specs.Disk.{Disk}
 use Rattle.dsy_base.specs.Links.{DialState}
 use Rattle.dsy_base.specs.declared.look.Look.{Ghosts as LookWords}
@@ -43,3 +47,11 @@ pub record JustOpened {L D K : Type 0} (look : LookWords L) (state : D → DialS
   pub cache_named : s.place ≡ cache
   pub cache_known : IsSome (d.folder_counts cache)
   pub cache_fresh : s.faults ≡ 0
+
+-- indexes were had in order, as far as they were wanted: where all are files no server was asked for one, and else each
+-- server on one connection at most
+pub record AreHad (indexes : List (List ℕ)) (w v : Storage) : Type 0 where
+  pub reads : Reads w.disk v.disk
+  pub dials : Dials w.dial v.dial
+  pub undialed : IsTrue (are_files indexes) → v.dial ≡ w.dial
+  pub asks : AsksInTurn indexes w.dial.ended v.dial.ended

@@ -1,27 +1,28 @@
 //! `cache -s STORE.. -c CACHE -n WORKERS INDEX..`: CACHE holds each chunk that the indexes list, with chunks from 1 to
 //! 16 stores.
 
-ghost use Rattle.std.specs.Prelude.{◌≡◌, ◌⊎◌, ℕ, List, ◌+◌, ◌-◌, ◌≤◌, ◌∷◌, length, IfOk, IfErr, Ok, Err, Some};
+ghost use Rattle.std.specs.Prelude.{◌≡◌, ◌⊎◌, ℕ, List, ◌+◌, ◌-◌, ◌≤◌, ◌∷◌, length, All, IfOk, IfErr, Ok, Err, Some};
 ghost use Rattle.std.specs.List.{AllZip};
-ghost use Rattle.cache_command.specs.Caching.{CacheEnds, FillsEach, FrontListed, IndexesFilled, of_calls};
-ghost use Rattle.cache_command.specs.Filling.{AsksListings, HoldAlike, JustOpened};
+ghost use Rattle.cache_command.specs.Caching.{CacheEnds, FillsEach, FrontSpelled, IndexesFilled, of_calls};
+ghost use Rattle.cache_command.specs.Filling.{AreHad, AsksListings, HoldAlike, JustOpened};
 ghost use Rattle.cache_store.specs.Shelves.{shelf_of};
 ghost use Rattle.caibx_codec.specs.Listing.{Listing};
 ghost use Rattle.command_steps.specs.AnyStores.{said_in, source_faults, source_files};
 ghost use Rattle.command_steps.specs.Cache.{CacheOpened, with_cache};
 ghost use Rattle.cache_command.specs.Chains.{chain_stores};
 ghost use Rattle.command_steps.specs.Sources.{SourcesOpened, storage};
-ghost use Rattle.command_worlds.specs.Worlds.{Reads, world};
+ghost use Rattle.command_words.specs.Locations.{NamesIndex};
+ghost use Rattle.command_worlds.specs.Worlds.{world};
 ghost use Rattle.dsy_base.specs.Disk.{Disk, Output};
 
 use crate::chains::{close_chains, drop_chains, open_chains};
 use crate::filling::{Filling, fill_by, filling_of};
 use chunk_store::id::DigestKind;
 use chunk_store::store::Store;
+use command_indexes::load::load_index;
 use command_outcome::outcome::Outcome;
 use command_steps::any_store::AnyStore;
 use command_steps::cache::{give_shelf, take_shelf};
-use command_steps::input_files::load_index;
 use command_steps::sources::{close_sources, drop_sources, open_sources};
 use command_words::command::{Location, Locations, Names};
 use dsy_base::dial::Dial;
@@ -34,10 +35,12 @@ use std::alloc::Global;
 use std::thread::Threads;
 
 // Reads the rest of the indexes in their order, and fills the cache by each.
+#[tactic(auto, using(crate::proofs::Had::first_named))]
 fn fill_each<R: Threads + Sync, F: Files, D: Dial + Send>(
     rt: &R,
     alloc: Global,
     files: &mut F,
+    dial: &mut D,
     indexes: &[Name],
     filling: Filling<F::Folder, AnyStore<F::Look, D>>,
 ) -> (
@@ -48,13 +51,17 @@ where
     F::Look: Send,
     D::Link: Send,
     requires alike { HoldAlike ⟦<AnyStore<F::Look, D> as Store>⟧ filling.cached.chain filling.further.items }
+    requires named { All NamesIndex indexes.now }
     ensures filled { FillsEach (of_calls (source_files F.Look.files) (said_in F.Look.files D.state)
         (source_faults F.Look.faults D.state) filling.cached.chain.stores result.0.cached.chain.stores
         (F.Folder.faults filling.cached.shelf.folder) (F.Folder.faults result.0.cached.shelf.folder))
-        (F.disk files.old) (F.disk files.new) indexes.now
+        (storage (F.disk files.old) (D.state dial.old)) (storage (F.disk files.new) (D.state dial.new)) indexes.now
         (F.Folder.files filling.cached.shelf.folder) (F.Folder.files result.0.cached.shelf.folder) result.1 }
-    ensures kept { Reads (F.disk files.old) (F.disk files.new) }
-    ensures asks { (ls : List Listing) × FrontListed (F.disk files.old) indexes.now ls
+    ensures had { AreHad indexes.now (storage (F.disk files.old) (D.state dial.old))
+        (storage (F.disk files.new) (D.state dial.new)) }
+    ensures asks { (ls : List Listing)
+        × FrontSpelled (storage (F.disk files.old) (D.state dial.old)) (storage (F.disk files.new) (D.state dial.new))
+        indexes.now ls
         × AllZip (AsksListings ⟦<AnyStore<F::Look, D> as Store>⟧ ls)
         (filling.cached.chain ∷ filling.further.items) (result.0.cached.chain ∷ result.0.further.items) }
     ensures place { F.Folder.place result.0.cached.shelf.folder ≡ F.Folder.place filling.cached.shelf.folder }
@@ -67,13 +74,13 @@ where
     let Ok(name) = Name::of(alloc, first.as_str()) else {
         return (filling, Err(Outcome::Memory));
     };
-    let index = match load_index(alloc, files, name) {
+    let index = match load_index(alloc, files, dial, name) {
         Ok(index) => index,
         Err(outcome) => return (filling, Err(outcome)),
     };
     let (filling, filled) = fill_by(rt, alloc, &index, filling);
     match filled {
-        Ok(()) => fill_each(rt, alloc, files, rest, filling),
+        Ok(()) => fill_each(rt, alloc, files, dial, rest, filling),
         Err(outcome) => (filling, Err(outcome)),
     }
 }
@@ -132,12 +139,13 @@ where
     requires reached { JustOpened F.Look.Look D.state ⟦<AnyStore<F::Look, D> as Store>⟧ (F.disk files.old) cache.now
         (shelf_of F.Folder.files F.Folder.place F.Folder.faults filling.cached.shelf)
         filling.cached.chain filling.further.items }
+    requires named { All NamesIndex indexes.now }
     ensures filled { IndexesFilled (chain_stores F.Look.Look filling.cached.chain) cache.now
         (1 + length filling.further.items) indexes.now (storage (with_cache
         (Some (shelf_of F.Folder.files F.Folder.place F.Folder.faults filling.cached.shelf)) (F.disk files.old))
         (D.state dial.old)) result (storage (F.disk files.new) (D.state dial.new)) }
 {
-    let (filling, filled) = fill_each(rt, alloc, files, indexes, filling);
+    let (filling, filled) = fill_each(rt, alloc, files, dial, indexes, filling);
     let Filling { cached, further } = filling;
     let (shelf, chain) = cached.into_parts();
     give_shelf(files, cache, shelf);
@@ -169,7 +177,8 @@ pub fn fill_cache<R: Threads + Sync, F: ImageFiles, D: Dial + Send>(
 where
     F::Look: Send,
     D::Link: Send,
-    requires { (1 ≤ length words.stores) × (length words.stores ≤ 16) }
+    requires stores { (1 ≤ length words.stores) × (length words.stores ≤ 16) }
+    requires named { All NamesIndex words.indexes }
     ensures ends { (p : Output) → CacheEnds words.stores words.cache words.workers words.indexes
         (world (F.disk files.old) (D.state dial.old) p) result (world (F.disk files.new) (D.state dial.new) p) }
 {

@@ -12,8 +12,8 @@ use Rattle.chunk_store.specs.declared.id.ChunkId.{ChunkId}
 use Rattle.command_outcome.specs.declared.outcome.Outcome.{Outcome}
 use Rattle.command_outcome.specs.declared.outcome.Outcome.TheVariants as ends
 use Rattle.command_steps.specs.Asking.{AsksOnly, EachDialed}
-use Rattle.command_steps.specs.InputFiles.{IndexRead}
-use Rattle.command_steps.specs.Sources.{ConsultsStores, HaveLacked, Storage, SourcesOpened, said_at, location_files}
+use Rattle.command_indexes.specs.Gets.{IndexGot}
+use Rattle.command_steps.specs.Sources.{ConsultsStores, HaveLacked, OnStorage, Storage, SourcesOpened, said_at, location_files}
 use Rattle.command_steps.specs.Sources.{storage_of}
 use Rattle.command_words.specs.declared.command.Location.{Location}
 use Rattle.command_worlds.specs.Steps.{◌>>=◌}
@@ -101,5 +101,5 @@ PutFrom stores l at n = do
 -- the range from OFFSET on is put, LENGTH bytes of it where LENGTH is given
 abbrev pub CatEnds : List Location → ℕ → Option ℕ → List ℕ → Step World Unit
 CatEnds stores offset length index = do
-  l ← OnDisk (IndexRead index)
+  l ← OnStorage (IndexGot index)
   PutFrom stores l offset (range_size l offset length)

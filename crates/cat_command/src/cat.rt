@@ -4,13 +4,14 @@
 ghost use Rattle.std.specs.Prelude.{◌≡◌, ◌-◌, ◌≤◌, length};
 ghost use Rattle.caibx_codec.specs.Listing.{image_length};
 ghost use Rattle.cat_command.specs.Cat.{CatEnds, PutFrom};
+ghost use Rattle.command_words.specs.Locations.{NamesIndex};
 ghost use Rattle.command_worlds.specs.Worlds.{world};
 
 use crate::putting::put_from;
 use crate::range::Range;
 use caibx_codec::index::Index;
+use command_indexes::load::load_index;
 use command_outcome::outcome::Outcome;
-use command_steps::input_files::load_index;
 use command_steps::sources::{close_sources, open_sources};
 use command_words::command::{Location, Locations};
 use dsy_base::dial::Dial;
@@ -64,7 +65,8 @@ pub fn cat<F: Files, D: Dial, O: Sink>(
     out: &mut O,
     words: CatWords,
 ) -> Result<(), Outcome>
-    requires { (1 ≤ length words.stores) × (length words.stores ≤ 16) }
+    requires stores { (1 ≤ length words.stores) × (length words.stores ≤ 16) }
+    requires named { NamesIndex words.index }
     ensures ends { CatEnds words.stores words.offset words.length words.index
         (world (F.disk files.old) (D.state dial.old) (O.output out.old)) result
         (world (F.disk files.new) (D.state dial.new) (O.output out.new)) }
@@ -75,7 +77,7 @@ pub fn cat<F: Files, D: Dial, O: Sink>(
         length,
         index,
     } = words;
-    let listed = load_index(alloc, files, index)?;
+    let listed = load_index(alloc, files, dial, index)?;
     let range = Range::of(&listed, offset, length);
     let stores = stores.as_slice();
     put_stored(alloc, files, dial, out, stores, listed, range)

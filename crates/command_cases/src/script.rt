@@ -4,7 +4,7 @@ use crate::notation::parted;
 use crate::running::{both, run, surely};
 use crate::setting::{
     client, digest, failing_files, failing_listener, failing_reads, failing_store, failing_writes,
-    file, index, more, more_file, server, store,
+    file, index, more, more_file, served, server, store,
 };
 use crate::showing::{
     chunk_shown, digits_shown, file_shown, names_shown, print_found, replies_shown, sameness_shown,
@@ -27,6 +27,7 @@ fn set_up_or_show(rt: &impl Print, world: &mut World, line: &str) -> Result<(), 
         "store" => store(world, rest),
         "failing-store" => failing_store(world, rest),
         "server" => server(world, rest),
+        "served" => served(world, rest),
         "client" => client(world, rest),
         "more" => more(world, rest),
         "more-file" => more_file(world, rest),

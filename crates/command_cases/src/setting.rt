@@ -116,6 +116,22 @@ pub fn server(world: &mut World, text: &str) -> Result<(), Fail> {
     Ok(())
 }
 
+/// `served NAME`, `served NAME LENGTH`
+pub fn served(world: &mut World, rest: &str) -> Result<(), Fail> {
+    let (name, length) = parted(rest);
+    let held = world.memory.files.file(name).ok_or("no file")?;
+    let length = if length.is_empty() {
+        held.len()
+    } else {
+        number_of(length)? as usize
+    };
+    let part = held.get(..length).ok_or("no such length")?;
+    let mut sent = world.servers.pop().ok_or("no server")?;
+    sent.extend_from_slice(part)?;
+    world.servers.push(sent)?;
+    Ok(())
+}
+
 /// `client BYTES`
 pub fn client(world: &mut World, text: &str) -> Result<(), Fail> {
     world.clients.push(bytes_of(world.alloc, text)?)?;

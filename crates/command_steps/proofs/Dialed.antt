@@ -12,7 +12,7 @@ use Rattle.http_read.specs.Remotes.{HasCause}
 
 -- ---- one dialer later
 
-grows_none : (a : Option (List Traffic)) → EndedGrows a a
+pub grows_none : (a : Option (List Traffic)) → EndedGrows a a
 grows_none None = refl
 grows_none (Some x) = ([], ap Some (sym (append-nil x)))
 
@@ -39,7 +39,7 @@ grows_by (Some x) (Some y) alike = (y, refl)
 
 -- ---- what has ended since
 
-since_is : (x m : List Traffic) → since (Some x) (Some (x ++ m)) ≡ Some m
+pub since_is : (x m : List Traffic) → since (Some x) (Some (x ++ m)) ≡ Some m
 since_is x m = ap Some (drop-append_seam x m)
 
 among_itself : (a : Option (List Traffic)) → AreAmong a a

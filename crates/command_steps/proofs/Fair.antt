@@ -17,10 +17,11 @@ use Rattle.command_steps.specs.Sources.{ConsultsStores, FailsFirst as SourceFail
 use Rattle.command_steps.specs.Stores.{NotReached, StoreTaken, are_folders, is_folder}
 use Rattle.command_steps.specs.TakenStores.{SourceTaken}
 use Rattle.command_worlds.specs.Worlds.{Adds, FileRose, FolderRose, OnDisk, OnOut, Pure, Reads, Step, World, Writes, world}
+use Rattle.command_words.specs.Locations.{index_place_of}
 use Rattle.command_words.specs.declared.command.Location.{Location}
 use Rattle.command_words.specs.declared.command.Location.TheVariants as locations
 use Rattle.command_steps.proofs.Cached.{cache_reads}
-use Rattle.command_steps.proofs.Consulted.{store_rose_later, store_rose_longer}
+use Rattle.command_steps.proofs.Consulted.{index_rose_later, index_rose_longer, store_rose_later, store_rose_longer}
 use Rattle.command_steps.proofs.Dialed.{dials_none, dials_twice}
 use Rattle.command_steps.proofs.Numbers.{rose_later, rose_longer}
 use Rattle.dsy_base.specs.Disk.{Disk, Output}
@@ -80,7 +81,8 @@ fair_earlier {s} {z} w u v x o a b h = (h.0, go o h.1) where
   go ends.TargetFault r = file x.target r
   go ends.CacheFault r = folder x.cache r
   go (ends.FileFault name) (inl r) = inl (file name r)
-  go (ends.FileFault name) (inr r) = inr (folder name r)
+  go (ends.FileFault name) (inr (inl r)) = inr (inl (folder name r))
+  go (ends.FileFault name) (inr (inr r)) = inr (inr (r.0, index_rose_later w.dial u.dial v.dial a.dial b.dial (index_place_of name) r.1))
   go ends.OutFault r = rose_later w.out.faults u.out.faults v.out.faults a.out r
   go ends.ListenFault r = r
   go other r = r
@@ -100,7 +102,8 @@ fair_longer {s} {z} w v u x o b a h = (h.0, go o h.1) where
   go ends.TargetFault r = file x.target r
   go ends.CacheFault r = folder x.cache r
   go (ends.FileFault name) (inl r) = inl (file name r)
-  go (ends.FileFault name) (inr r) = inr (folder name r)
+  go (ends.FileFault name) (inr (inl r)) = inr (inl (folder name r))
+  go (ends.FileFault name) (inr (inr r)) = inr (inr (r.0, index_rose_longer w.dial v.dial u.dial b.dial a.dial (index_place_of name) r.1))
   go ends.OutFault r = rose_longer w.out.faults v.out.faults u.out.faults a.out r
   go ends.ListenFault r = r
   go other r = r
@@ -243,14 +246,14 @@ module _ (s : Spares) (x : Parts) (p : Unread) where
 
   pub reached_fair : (d e : Disk) (q : List ℕ) (o : Outcome) → NotReached d e q o → IsFair x o (round p d) (round p e)
   reached_fair d e q (ends.NoFolder name) h = (tt, tt)
-  reached_fair d e q (ends.FileFault name) h = (tt, inr (subst (λ n. FolderRose d e n) (sym h.0) h.1))
+  reached_fair d e q (ends.FileFault name) h = (tt, inr (inl (subst (λ n. FolderRose d e n) (sym h.0) h.1)))
   reached_fair d e q ends.Memory h = (tt, tt)
   reached_fair d e q other h = absurd h
 
   unreached_fair : (d e : Disk) (q : Location) (o : Outcome) → Unreached d e q o → IsFair x o (round p d) (round p e)
   unreached_fair d e q ends.Memory h = (tt, tt)
   unreached_fair d e (locations.Folder q) (ends.NoFolder name) h = (tt, tt)
-  unreached_fair d e (locations.Folder q) (ends.FileFault name) h = (tt, inr (subst (λ n. FolderRose d e n) (sym h.0) h.1))
+  unreached_fair d e (locations.Folder q) (ends.FileFault name) h = (tt, inr (inl (subst (λ n. FolderRose d e n) (sym h.0) h.1)))
   unreached_fair d e (locations.Folder q) other h = absurd h
   unreached_fair d e (locations.Http host port prefix) other h = absurd h
 
@@ -277,7 +280,7 @@ sources_fair s x p w v (q ∷ names) o (inl h) = reached q o h where
   reached : (q : Location) (o : Outcome) → Unreached w.disk v.disk q o → IsFair x o (behind p w) (behind p v)
   reached q ends.Memory h = (tt, tt)
   reached (locations.Folder q) (ends.NoFolder name) h = (tt, tt)
-  reached (locations.Folder q) (ends.FileFault name) h = (tt, inr (subst (λ n. FolderRose w.disk v.disk n) (sym h.0) h.1))
+  reached (locations.Folder q) (ends.FileFault name) h = (tt, inr (inl (subst (λ n. FolderRose w.disk v.disk n) (sym h.0) h.1)))
   reached (locations.Folder q) other h = absurd h
   reached (locations.Http host port prefix) other h = absurd h
 sources_fair s x p w v (q ∷ names) o (inr h) = sources_fair s x p w v names o h.1

@@ -1,5 +1,5 @@
 -- Seeds' names, and their indexes that are read in order.
-use Rattle.std.proofs.Common.{◌≡◌, ◌≢◌, ℕ, ◌+◌, ◌-◌, ◌≤◌, List, [], ◌∷◌, ◌++◌, length, take, drop, codes, Bool, true, false, cond, Some, None, IfSome, refl, sym, ap, subst, ◌∙◌, inl, inr}
+use Rattle.std.proofs.Common.{◌≡◌, ◌≢◌, ℕ, ◌+◌, ◌-◌, ◌≤◌, List, [], ◌∷◌, ◌++◌, length, take, drop, codes, Bool, true, false, cond, Some, None, IfSome, Ok, refl, sym, ap, subst, ◌∙◌, inl, inr}
 use Rattle.std.proofs.lemmas.List.{append_assoc, take-append-drop}
 use Rattle.std.proofs.lemmas.Slice.Eq.{bytes_eq-Decides}
 use Rattle.std.specs.Map.{count_at}
@@ -9,7 +9,7 @@ use Rattle.command_outcome.specs.declared.outcome.Outcome.{Outcome}
 use Rattle.command_outcome.specs.declared.outcome.Outcome.TheVariants as ends
 use Rattle.command_steps.proofs.Numbers.{rose_later}
 use Rattle.command_steps.specs.InputFiles.{IsBad, IsListed, Listed, NotRead}
-use Rattle.command_steps.specs.Seeds.{AllListed, NoneListed, image_name, items_with}
+use Rattle.command_steps.specs.Seeds.{AllListed, CountedWith, NoneListed, image_name, items_with}
 use Rattle.command_worlds.specs.Worlds.{Reads}
 use Rattle.dsy_base.specs.Disk.{Disk}
 use Rattle.extract_plan.specs.Places.{seed_item_limit}
@@ -49,13 +49,13 @@ none_later d b e r n (q ∷ names) o (inr (l, listed, inr h)) = inr (l, listed_l
 
 -- ---- one index, and then the rest
 
-pub all_more : (d b : Disk) → Reads d b → (q : List ℕ) (names : List (List ℕ)) (l : Listing) (n k most : ℕ) (old mid new : List Listing) → Listed d q l → k ≡ count_of l → mid ≡ old ++ l ∷ []
-    → (ls : List Listing) × AllListed b names ls × (items_with (n + k) ls ≤ most) × (new ≡ mid ++ ls)
+pub all_more : (d b : Disk) → Reads d b → (q : List ℕ) (names : List (List ℕ)) (l : Listing) (n m most : ℕ) (old mid new : List Listing) → Listed d q l → m ≡ n + count_of l → mid ≡ old ++ l ∷ []
+    → (ls : List Listing) × AllListed b names ls × (items_with m ls ≤ most) × (new ≡ mid ++ ls)
     → (ls : List Listing) × AllListed d (q ∷ names) ls × (items_with n ls ≤ most) × (new ≡ old ++ ls)
-all_more d b r q names l n k most old mid new listed counted same (ls, all, few, are) =
-    (l ∷ ls, (listed, all_later d b r names ls all), subst (λ (m : ℕ). items_with (n + m) ls ≤ most) counted few, are ∙ ap (λ (m : List Listing). m ++ ls) same ∙ append_assoc old (l ∷ []) ls)
+all_more d b r q names l n m most old mid new listed counted same (ls, all, few, are) =
+    (l ∷ ls, (listed, all_later d b r names ls all), subst (λ (k : ℕ). items_with k ls ≤ most) counted few, are ∙ ap (λ (m : List Listing). m ++ ls) same ∙ append_assoc old (l ∷ []) ls)
 
-pub none_more : (d b e : Disk) → Reads d b → (q : List ℕ) (names : List (List ℕ)) (l : Listing) (n k : ℕ) (o : Outcome) → Listed d q l → k ≡ count_of l → n + k ≤ seed_item_limit
-    → NoneListed b e (n + k) names o → NoneListed d e n (q ∷ names) o
-none_more d b e r q names l n k o listed counted few none =
-    inr (l, listed, inr (subst (λ (m : ℕ). n + m ≤ seed_item_limit) counted few, none_later d b e r (n + count_of l) names o (subst (λ (m : ℕ). NoneListed b e (n + m) names o) counted none)))
+pub none_more : (d b e : Disk) → Reads d b → (q : List ℕ) (names : List (List ℕ)) (l : Listing) (n m : ℕ) (o : Outcome) → Listed d q l → CountedWith n l (Ok m)
+    → NoneListed b e m names o → NoneListed d e n (q ∷ names) o
+none_more d b e r q names l n m o listed counted none =
+    inr (l, listed, inr (subst (λ (k : ℕ). k ≤ seed_item_limit) counted.0 counted.1, none_later d b e r (n + count_of l) names o (subst (λ (k : ℕ). NoneListed b e k names o) counted.0 none)))

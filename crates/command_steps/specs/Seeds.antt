@@ -1,6 +1,6 @@
 -- Seeds: other images at hand, each named by its index. The index `X.caibx` is that of the image X.
 use Rattle.std.specs.Prelude.{◌≡◌, ◌⊎◌, ℕ, ◌+◌, ◌-◌, ◌<◌, ◌≤◌, List, [], ◌∷◌, ◌++◌, length, take, drop, codes}
-use Rattle.std.specs.Prelude.{Option, Some, None, IfSome, IsSome, if◌then◌else◌, unwrap_or, Ok, Err}
+use Rattle.std.specs.Prelude.{Option, Some, None, IfSome, IsSome, if◌then◌else◌, unwrap_or, Result, Ok, Err}
 use Rattle.std.specs.List.{All, AllZip, fold}
 use Rattle.std.specs.Option.{option_map}
 use Rattle.std.specs.Str.{bytes_eq}
@@ -27,6 +27,13 @@ image_name q = if bytes_eq (drop (length q - 6) q) (codes ".caibx") then take (l
 -- how many items the indexes list, with n beside them
 abbrev pub items_with : ℕ → List Listing → ℕ
 items_with n ls = fold (λ m l. m + count_of l) n ls
+
+-- an index was put to others that list n items: how many these list with it, which are no more than they may be
+abbrev pub CountedWith : ℕ → Listing → Result ℕ Outcome → Type 0
+CountedWith n l (Ok m) = (m ≡ n + count_of l) × (m ≤ seed_item_limit)
+CountedWith n l (Err ends.TooManyItems) = seed_item_limit < n + count_of l
+CountedWith n l (Err ends.Memory) = Unit {0}
+CountedWith n l (Err other) = ⊥
 
 -- the files of these names are there, and are the index files of these indexes
 abbrev pub AllListed : Disk → List (List ℕ) → List Listing → Type 0

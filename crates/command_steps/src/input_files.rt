@@ -14,7 +14,7 @@ use dsy_base::name::Name;
 use std::alloc::Global;
 
 /// Reads the index file of this name.
-pub fn load_index<F: Files>(alloc: Global, files: &mut F, name: Name) -> Result<Index, Outcome>
+pub fn load_index_file<F: Files>(alloc: Global, files: &mut F, name: Name) -> Result<Index, Outcome>
     ensures ok { IfOk result (Listed (F.disk files.old) name) }
     ensures err { IfErr result (NotRead (F.disk files.old) (F.disk files.new) name) }
     ensures kept { Reads (F.disk files.old) (F.disk files.new) }

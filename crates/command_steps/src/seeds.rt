@@ -6,15 +6,15 @@ ghost use Rattle.std.specs.List.{All, AllZip};
 ghost use Rattle.std.specs.Map.{count_at};
 ghost use Rattle.caibx_codec.specs.Listing.{Listing, count_of};
 ghost use Rattle.command_steps.specs.InputFiles.{Listed};
-ghost use Rattle.command_steps.specs.Seeds.{AllListed, IsSeedAt, IsViewed, NoneListed, OpensSeeds, SeedsKnown};
-ghost use Rattle.command_steps.specs.Seeds.{image_name, items_with, label_in};
+ghost use Rattle.command_steps.specs.Seeds.{AllListed, CountedWith, IsSeedAt, IsViewed, NoneListed, OpensSeeds};
+ghost use Rattle.command_steps.specs.Seeds.{SeedsKnown, image_name, items_with, label_in};
 ghost use Rattle.command_steps.specs.Uses.{IsNoneOf, Uses, names_among};
 ghost use Rattle.command_worlds.specs.Worlds.{Reads};
 ghost use Rattle.dsy_base.specs.Counts.{raised};
 ghost use Rattle.extract_plan.specs.Places.{items_of, seed_item_limit};
 ghost use Rattle.extract_plan.specs.Seeds.{faults_in, seed_held};
 
-use crate::input_files::load_index;
+use crate::input_files::load_index_file;
 use caibx_codec::index::Index;
 use command_outcome::outcome::Outcome;
 use dsy_base::fault::{Memory, OpenFault};
@@ -32,6 +32,24 @@ pub fn image_name(index: &str) -> &str
     match index.strip_suffix(".caibx") {
         Some(image) => image,
         None => index,
+    }
+}
+
+/// Puts an index to others, which list so many items. Answers how many they list with it, unless these are more than
+/// 2^23.
+pub fn add_index(index: Index, items: usize, indexes: &mut Vec<Index>) -> Result<usize, Outcome>
+    requires { items ≤ seed_item_limit }
+    ensures counted { CountedWith items index result }
+    ensures added { OnOk result (indexes.new.items ≡ indexes.old.items ++ index ∷ []) }
+{
+    index.rules();
+    let items = items + index.count();
+    if items > SEED_ITEM_LIMIT {
+        return Err(Outcome::TooManyItems);
+    }
+    match indexes.push(index) {
+        Ok(()) => Ok(items),
+        Err(_) => Err(Outcome::Memory),
     }
 }
 
@@ -56,15 +74,8 @@ fn read_each<F: Files>(
     let Ok(name) = Name::of(alloc, first.as_str()) else {
         return Err(Outcome::Memory);
     };
-    let index = load_index(alloc, files, name)?;
-    index.rules();
-    let items = items + index.count();
-    if items > SEED_ITEM_LIMIT {
-        return Err(Outcome::TooManyItems);
-    }
-    let Ok(()) = indexes.push(index) else {
-        return Err(Outcome::Memory);
-    };
+    let index = load_index_file(alloc, files, name)?;
+    let items = add_index(index, items, indexes)?;
     read_each(alloc, files, rest, items, indexes)
 }
 

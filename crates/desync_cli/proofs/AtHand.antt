@@ -23,9 +23,10 @@ use Rattle.command_outcome.specs.declared.outcome.Outcome.TheVariants as ends
 use Rattle.command_steps.proofs.Cached.{cache_reads}
 use Rattle.command_steps.proofs.Numbers.{rose_longer, rose_not_quiet}
 use Rattle.command_steps.specs.Cache.{CacheOpened}
-use Rattle.command_steps.specs.InputFiles.{IsBad, IsListed, Listed, NotRead}
+use Rattle.command_indexes.proofs.Got.{got_file}
+use Rattle.command_steps.specs.InputFiles.{IndexRead, IsBad, IsListed, Listed, NotRead}
 use Rattle.command_steps.specs.Seeds.{IndexesRead, NoneListed, image_name, items_with}
-use Rattle.command_steps.specs.Sources.{FirstUnreached, HaveLacked, IsThere, Storage, SourcesOpened, StoreRose, Unreached, files_at, said_at, storage}
+use Rattle.command_steps.specs.Sources.{FirstUnreached, HaveLacked, IsThere, Storage, SourcesOpened, StoreRose, Unreached, files_at, said_at, storage, storage_of}
 use Rattle.command_worlds.specs.Steps.{◌>>=◌, outcome_of}
 use Rattle.command_steps.specs.Stores.{NotReached}
 use Rattle.command_worlds.specs.Worlds.{DiskQuiet, FileRose, FolderRose, OnDisk, Reads, World, Writes, world}
@@ -350,16 +351,19 @@ module _ (sure : NeverFail) (stores : List Location) (cache : Option (List ℕ))
   AllNear l ls = (i : ℕ) → i < count_of l → IsAtHand b n (into place out) l (seeds_of ls) (near cache stores) i
 
   pub extracted_at_hand : (o : Outcome) → ExtractEnds sure stores cache seeds place index out w (Err o) v → o ≡ ends.Memory
-  extracted_at_hand o (inl h) = unread w.disk v.disk b files (still w.disk (self_climbs w.disk)) index no.listing o no.listed h.0.0
+  extracted_at_hand o (inl h) = unread w.disk v.disk b files (still w.disk (self_climbs w.disk)) index no.listing o no.listed (got_file index (storage_of w) (Err o) (storage_of v) no.file h.0).0.0
   extracted_at_hand o (inr h) = seeds_then h.then where
+    got : IndexRead index w.disk (Ok h.gave) h.disk
+    got = (got_file index (storage_of w) (Ok h.gave) (storage h.disk h.dial) no.file h.did.0).0
+
     read : Reads w.disk h.disk
-    read = h.did.0.1
+    read = got.1
 
     files1 : h.disk.files ≡ Some b
     files1 = read.files ∙ files
 
     is_listing : h.gave ≡ no.listing
-    is_listing = same_listing b index h.gave no.listing (subst (λ f. IfSome f (λ z. IsListed z index h.gave)) files h.did.0.0) no.listed
+    is_listing = same_listing b index h.gave no.listing (subst (λ f. IfSome f (λ z. IsListed z index h.gave)) files got.0) no.listed
 
     climbs1 : Climbs w.disk h.disk
     climbs1 = read_climbs w.disk h.disk read

@@ -1,16 +1,17 @@
 -- What `cache` has achieved where it is done.
 use Rattle.std.proofs.Common.{◌≡◌, ◌⊎◌, ℕ, arith, suc, ◌<◌, List, [], ◌∷◌, true, false, Option, Some, None, IfSome, IsSome, is_some, Ok, refl, sym, subst, ap, ◌∙◌, inl, inr, unwrap_or}
 use Rattle.std.proofs.lemmas.Option.{same_Some}
-use Rattle.std.specs.List.{AllZip, Any}
+use Rattle.std.specs.List.{AllZip, Any, Contains}
 use Rattle.std.specs.Option.{option_map}
 use Rattle.caibx_codec.specs.Listing.{Listing, count_of, id_of}
 use Rattle.chunk_store.specs.Folders.{chunks}
-use Rattle.command_steps.specs.InputFiles.{IsListed}
-use Rattle.command_steps.specs.Sources.{storage, storage_of}
+use Rattle.command_indexes.proofs.Spelled.{IsPart, spells_wider}
+use Rattle.command_indexes.specs.Spelled.{Spells}
+use Rattle.command_steps.proofs.Dialed.{dials_none, dials_same}
+use Rattle.command_steps.specs.Sources.{Storage, storage, storage_of}
 use Rattle.command_worlds.specs.Worlds.{World}
 use Rattle.command_words.specs.declared.command.Location.{Location}
 use Rattle.cache_command.specs.Caching.{AllFilled, CacheEnds, Evidence, HoldsInOrder, HoldsListed, IndexFilled, IsCached, of_command}
-use Rattle.dsy_base.specs.Disk.{Disk}
 use Rattle.dsy_base.specs.Maps.{Map, at_name}
 
 true_false : true ≡ false → ⊥
@@ -27,22 +28,26 @@ told_of x None f is same = absurd (true_false (sym (same ∙ ap is_some is)))
 told_of x (Some g) f is same = (g, refl)
 
 module _ (over : Evidence) where
-  module _ (d e : Disk) where
-    all_tell : (indexes : List (List ℕ)) (x y : Option (Map (List ℕ))) → AllFilled over d e indexes x y → is_some y ≡ is_some x
+  module _ (w v : Storage) where
+    all_tell : (indexes : List (List ℕ)) (x y : Option (Map (List ℕ))) → AllFilled over w v indexes x y → is_some y ≡ is_some x
     all_tell [] x y h = ap is_some h
     all_tell (q ∷ indexes) x y (k, listed, z, filled, rest) = all_tell indexes z y rest ∙ filled.added.tells
 
-    module _ (b g : Map (List ℕ)) (is : d.files ≡ Some b) where
+    -- what each of the operands spelled is so
+    abbrev pub SpelledSo : (List ℕ → Listing → Type 0) → List (List ℕ) → Type 0
+    SpelledSo P indexes = (q : List ℕ) → Contains indexes q → (l : Listing) → Spells w v q l → P q l
+
+    module _ (P : List ℕ → Listing → Type 0) (g : Map (List ℕ)) where
       -- under each id of these indexes stand bytes of that name, by one of them; and under all others what stood there
-      listings : (indexes : List (List ℕ)) (f : Map (List ℕ)) → AllFilled over d e indexes (Some f) (Some g)
-          → (ls : List Listing) × AllZip (IsListed b) indexes ls × HoldsInOrder ls (chunks g) × ((q : List ℕ) → (chunks g q ≡ chunks f q) ⊎ Any (HoldsListed (chunks g) q) ls)
-      listings [] f h = ([], tt, tt, λ q. inl (ap (λ (m : Map (List ℕ)). chunks m q) (same_Some _ _ h)))
-      listings (p ∷ indexes) f (l, listed, z, filled, rest) =
+      listings : (indexes : List (List ℕ)) → SpelledSo P indexes → (f : Map (List ℕ)) → AllFilled over w v indexes (Some f) (Some g)
+          → (ls : List Listing) × AllZip P indexes ls × HoldsInOrder ls (chunks g) × ((q : List ℕ) → (chunks g q ≡ chunks f q) ⊎ Any (HoldsListed (chunks g) q) ls)
+      listings [] so f h = ([], tt, tt, λ q. inl (ap (λ (m : Map (List ℕ)). chunks m q) (same_Some _ _ h)))
+      listings (p ∷ indexes) so f (l, listed, z, filled, rest) =
           let there = told_of (Some f) z f refl filled.added.tells in
-          let later = listings indexes there.0 (subst (λ o. AllFilled over d e indexes o (Some g)) there.1 rest) in
+          let later = listings indexes (λ q has. so q (suc has.0, omega (arith, has.1), has.2)) there.0 (subst (λ o. AllFilled over w v indexes o (Some g)) there.1 rest) in
           let fill = subst (λ o. IndexFilled over l (Some f) o (Ok tt)) there.1 filled in (
             l ∷ later.0,
-            (subst (λ (o : Option (Map (List ℕ))). IfSome o (λ m. IsListed m p l)) is listed, later.1),
+            (so p (0, omega arith, refl) l listed, later.1),
             (
               λ i less.
                   let entry = fill.holds i less in
@@ -61,16 +66,15 @@ module _ (over : Evidence) where
             ],
           )
 
-    pub over_all : (cache : List ℕ) (indexes : List (List ℕ)) (x : Option (Map (List ℕ))) (y z : Option (Map (Map (List ℕ)))) (held files : Option (Map (List ℕ))) → d.files ≡ x
-        → IfSome y (λ m. (f : Map (List ℕ)) × (m cache ≡ Some f) × (held ≡ Some f)) → z ≡ option_map (λ m. at_name m cache files) y → AllFilled over d e indexes held files
-        → IfSome x (λ b. IfSome y (λ n. IfSome z (λ m. IsCached b n m cache indexes)))
-    over_all cache indexes None y z held files is taken back h = tt
-    over_all cache indexes (Some b) None z held files is taken back h = tt
-    over_all cache indexes (Some b) (Some n) None held files is taken back h = tt
-    over_all cache indexes (Some b) (Some n) (Some m) held files is taken back h =
+    pub over_all : (P : List ℕ → Listing → Type 0) (cache : List ℕ) (indexes : List (List ℕ)) (y z : Option (Map (Map (List ℕ)))) (held files : Option (Map (List ℕ))) → SpelledSo P indexes
+        → IfSome y (λ m. (f : Map (List ℕ)) × (m cache ≡ Some f) × (held ≡ Some f)) → z ≡ option_map (λ m. at_name m cache files) y → AllFilled over w v indexes held files
+        → IfSome y (λ n. IfSome z (λ m. IsCached P n m cache indexes))
+    over_all P cache indexes None z held files so taken back h = tt
+    over_all P cache indexes (Some n) None held files so taken back h = tt
+    over_all P cache indexes (Some n) (Some m) held files so taken back h =
         let now = told_of held files taken.0 taken.2 (all_tell indexes held files h) in
-        let from = subst (λ o. AllFilled over d e indexes o (Some now.0)) taken.2 (subst (λ o. AllFilled over d e indexes held o) now.1 h) in
-        let all = listings b now.0 is indexes taken.0 from in
+        let from = subst (λ o. AllFilled over w v indexes o (Some now.0)) taken.2 (subst (λ o. AllFilled over w v indexes held o) now.1 h) in
+        let all = listings P now.0 indexes so taken.0 from in
         record {
           listings = all.0;
           listed = all.1;
@@ -90,16 +94,25 @@ was_there (Some m) cache held there was = go (m cache) refl there where
   go (Some f) is some = (f, is, sym was ∙ is)
 
 pub cached : (stores : List Location) (cache : List ℕ) (most : ℕ) (indexes : List (List ℕ)) (w v : World) → CacheEnds stores cache most indexes w (Ok tt) v
-    → IfSome w.disk.files (λ b. IfSome w.disk.folders (λ f. IfSome v.disk.folders (λ g. IsCached b f g cache indexes)))
+    → IfSome w.disk.folders (λ f. IfSome v.disk.folders (λ g. IsCached (Spells (storage_of w) (storage_of v)) f g cache indexes))
 cached stores cache most indexes w v h =
     let reached = h.then in
     let filled = reached.then.0 in
     let opened = h.did.0.1 in
     let looked = reached.did.0.1 in
     let folders = looked.folders ∙ opened.folders in
-    let over = of_command (storage reached.disk reached.dial) (storage_of v) stores cache in
-    over_all over reached.disk v.disk cache indexes w.disk.files w.disk.folders v.disk.folders filled.held filled.now
-    (looked.files ∙ opened.files)
+    let u = storage reached.disk reached.dial in
+    let over = of_command u (storage_of v) stores cache in
+    let part : IsPart (storage_of w) u (storage_of v) (storage_of v) = record {
+      files = looked.files ∙ opened.files;
+      before = dials_same w.dial reached.dial (reached.did.1 ∙ h.did.1);
+      during = filled.dials;
+      after = dials_none v.dial;
+      counts = λ q. let a = opened.counts q in let b = looked.counts q in omega (arith, a, b);
+      later = λ q. omega arith;
+    } in
+    over_all over u (storage_of v) (Spells (storage_of w) (storage_of v)) cache indexes w.disk.folders v.disk.folders filled.held filled.now
+    (λ q has l. spells_wider (storage_of w) u (storage_of v) (storage_of v) part q l)
     (was_there w.disk.folders cache filled.held (subst (λ (y : Option (Map (Map (List ℕ)))). IfSome y (λ m. IsSome (m cache))) opened.folders reached.did.0.0)
     (subst (λ (y : Option (Map (Map (List ℕ)))). IfSome y (λ m. m cache ≡ filled.held)) folders filled.was))
     (filled.back ∙ ap (option_map (λ (m : Map (Map (List ℕ))). at_name m cache filled.now)) folders)

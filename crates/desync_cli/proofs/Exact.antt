@@ -1,10 +1,11 @@
 -- What every command answers and leaves where nothing fails.
-use Rattle.std.proofs.Common.{◌≡◌, ℕ, List, Bool, Some, IfSome, Result, Ok, Err, refl, inl, inr}
+use Rattle.std.proofs.Common.{◌≡◌, ◌&&◌, ℕ, List, [], ◌∷◌, Bool, true, false, IsTrue, Some, IfSome, Result, Ok, Err, refl, inl, inr}
 use Rattle.command_help.specs.Help.{help_text}
 use Rattle.command_help.specs.declared.help.Topic.TheVariants as topics
 use Rattle.command_line.specs.CommandLine.{command_line}
 use Rattle.command_outcome.specs.declared.outcome.Outcome.{Outcome}
 use Rattle.command_outcome.specs.declared.outcome.Outcome.TheVariants as ends
+use Rattle.command_indexes.specs.Places.{are_files, is_file}
 use Rattle.command_steps.specs.Blames.{Parts}
 use Rattle.command_words.specs.declared.command.Command.{Command}
 use Rattle.command_words.specs.declared.command.Command.TheVariants as commands
@@ -30,18 +31,25 @@ use Rattle.std.proofs.lemmas.Option.{none-some}
 quiet : {p : Parts} {w v : World} {x : Contents} → IsFaultless p w v x → IsQuiet w v
 quiet f = record { disk = f.disk; out = f.out }
 
+-- the one index of a command
+the_file : (q : List ℕ) → IsTrue (are_files (q ∷ [])) → IsTrue (is_file q)
+the_file q t = go (is_file q) t where
+  go : (b : Bool) → IsTrue (b && true) → IsTrue b
+  go true t = refl
+  go false t = absurd (cc)
+
 module _ (sure : Bool) (k : Heard) (x : Contents) (w v : World) where
   command_exact : (c : Command) → IsFaultless (parts k c) w v x → (r : Result Unit Outcome) → CommandEnds sure k c w r v → EndsSo x v (EndingOf k c) (outcome_of r)
   command_exact (commands.Make store sizes workers digest index image) f = makes_so x w v (quiet f) store digest sizes index image f.folders f.tells
-  command_exact (commands.VerifyIndex workers index image) f = verifies_index_so x w v (quiet f) index image f.tells
-  command_exact (commands.Chop store workers index image) f = chops_so x w v (quiet f) store index image f.folders f.tells
-  command_exact (commands.Cache stores cache workers indexes) f = caches_so x w v (quiet f) stores cache workers indexes f.folders f.tells
-  command_exact (commands.ListChunks index) f = lists_so x w v (quiet f) index f.tells
-  command_exact (commands.Extract stores seeds cache in_place workers index target) f = extracts_so x w v (quiet f) (never_fail sure k.never_fails) stores f.folders cache seeds in_place index target f.tells
-  command_exact (commands.Cat stores offset length index) f = puts_so x w v (quiet f) stores offset length index f.folders f.tells
-  command_exact (commands.Info stores index) f = tells_so x w v (quiet f) stores index f.folders f.tells
+  command_exact (commands.VerifyIndex workers index image) f = verifies_index_so x w v (quiet f) index image (the_file index f.indexes) f.tells
+  command_exact (commands.Chop store workers index image) f = chops_so x w v (quiet f) store index image f.folders (the_file index f.indexes) f.tells
+  command_exact (commands.Cache stores cache workers indexes) f = caches_so x w v (quiet f) stores cache workers indexes f.folders f.indexes f.tells
+  command_exact (commands.ListChunks index) f = lists_so x w v (quiet f) index (the_file index f.indexes) f.tells
+  command_exact (commands.Extract stores seeds cache in_place workers index target) f = extracts_so x w v (quiet f) (never_fail sure k.never_fails) stores f.folders cache seeds in_place index target (the_file index f.indexes) f.tells
+  command_exact (commands.Cat stores offset length index) f = puts_so x w v (quiet f) stores offset length index f.folders (the_file index f.indexes) f.tells
+  command_exact (commands.Info stores index) f = tells_so x w v (quiet f) stores index f.folders (the_file index f.indexes) f.tells
   command_exact (commands.Verify store repair workers digest) f = verifies_so x w v (quiet f) digest store repair f.tells
-  command_exact (commands.Prune store indexes) f = prunes_so x w v (quiet f) store indexes f.tells
+  command_exact (commands.Prune store indexes) f = prunes_so x w v (quiet f) store indexes f.indexes f.tells
   command_exact (commands.Demo number size workers digest) f = demonstrates_so x w v (quiet f) digest number size f.tells
   command_exact commands.Help f = prints_so x w v (quiet f) (help_text topics.All) w (at_first x w f.tells)
   command_exact commands.Version f = prints_so x w v (quiet f) (help_text topics.Version) w (at_first x w f.tells)

@@ -1,5 +1,5 @@
 -- What `cache` answers and leaves where nothing fails.
-use Rattle.std.proofs.Common.{ap, arith, suc, ◌⊎◌, ◌≡◌, ◌∙◌, ℕ, ◌<◌, List, [], ◌∷◌, map, Option, Some, IfSome, IsSomeAnd, IsTrue, refl, subst, sym, inl, inr, Result, Ok, Err}
+use Rattle.std.proofs.Common.{ap, arith, zero, suc, ◌⊎◌, ◌≡◌, ◌∙◌, ℕ, ◌<◌, List, [], ◌∷◌, map, Option, Some, IfSome, IsSomeAnd, IsTrue, refl, subst, sym, inl, inr, Result, Ok, Err}
 use Rattle.std.proofs.lemmas.Option.{same_Some}
 use Rattle.std.specs.List.{Any, Contains}
 use Rattle.std.specs.Option.{option_map}
@@ -13,14 +13,17 @@ use Rattle.chunk_store.specs.declared.id.DigestKind.{DigestKind}
 use Rattle.command_outcome.specs.declared.outcome.Outcome.{Outcome}
 use Rattle.command_outcome.specs.declared.outcome.Outcome.TheVariants as ends
 use Rattle.command_steps.specs.Cache.{CacheOpened}
-use Rattle.command_steps.specs.InputFiles.{IsListed, NotRead}
+use Rattle.command_indexes.proofs.Spelled.{not_spelled_done, not_spelled_file, spells_file}
+use Rattle.command_indexes.specs.Places.{are_files, is_file}
+use Rattle.command_indexes.specs.Spelled.{NotSpelled, Spells}
+use Rattle.command_steps.specs.InputFiles.{IsListed}
 use Rattle.command_steps.specs.Sources.{OnStorage, location_files, storage_of}
 use Rattle.command_steps.specs.Stores.{are_folders}
 use Rattle.command_words.specs.declared.command.Location.{Location}
 use Rattle.command_worlds.specs.Steps.{◌>>=◌, outcome_of}
 use Rattle.command_worlds.specs.Worlds.{DiskQuiet, OnDisk, World}
 use Rattle.desync_cli.proofs.Cached.{any_first, any_later, over_all}
-use Rattle.desync_cli.proofs.Readings.{EndsSo, IsAt, IsQuiet, at_first, cache_so, file_unrisen, index_there, index_unread, some_not, stores_so}
+use Rattle.desync_cli.proofs.Readings.{EndsSo, IsAt, IsQuiet, at_first, both_files, cache_so, file_unrisen, index_there, index_unread, some_not, stores_so}
 use Rattle.desync_cli.specs.Contents.{Contents, Ending, HasContents, folder_at, folders_at, with_folder}
 use Rattle.desync_cli.specs.Exact.{Caches, FillsInOrder, GainsListed, GiveOneKind, IsFirstLacking, IsListedAmong, NamesLacking}
 use Rattle.dsy_base.specs.Maps.{Map, at_name}
@@ -46,6 +49,12 @@ among_first q indexes = (0, omega arith, refl)
 
 among_later : (q p : List ℕ) (indexes : List (List ℕ)) → Contains indexes p → Contains (q ∷ indexes) p
 among_later q p indexes (k, lt, is) = (suc k, omega (arith, lt), is)
+
+-- an operand among names of files is one
+pub file_among : (names : List (List ℕ)) → IsTrue (are_files names) → (q : List ℕ) → Contains names q → IsTrue (is_file q)
+file_among [] files q (k, lt, is) = absurd (omega (arith, lt))
+file_among (p ∷ names) files q (zero, lt, is) = subst (λ (n : List ℕ). IsTrue (is_file n)) is (both_files (is_file p) (are_files names) files).0
+file_among (p ∷ names) files q (suc k, lt, is) = file_among names (both_files (is_file p) (are_files names) files).1 q (k, omega (arith, lt), is)
 
 -- ---- what a cache gives that has gained chunks
 
@@ -105,7 +114,7 @@ fault_not_done (fills.StoreFault s) same = absurd (cc)
 fault_not_done fills.CacheFault same = absurd (cc)
 fault_not_done fills.Memory same = absurd (cc)
 
-module _ (x : Contents) (w u v : World) (at : IsAt x w u) (quiet : IsQuiet w v) (stores : List Location) (fs : List (Map (List ℕ))) (are : map (location_files x.folders) stores ≡ map Some fs) (cache : List ℕ) (indexes_all : List (List ℕ)) (f : Map (List ℕ)) where
+module _ (x : Contents) (w u v : World) (at : IsAt x w u) (quiet : IsQuiet w v) (stores : List Location) (fs : List (Map (List ℕ))) (are : map (location_files x.folders) stores ≡ map Some fs) (cache : List ℕ) (indexes_all : List (List ℕ)) (files : IsTrue (are_files indexes_all)) (f : Map (List ℕ)) where
   abbrev over : Evidence
   over = of_command (storage_of u) (storage_of v) stores cache
 
@@ -121,8 +130,11 @@ module _ (x : Contents) (w u v : World) (at : IsAt x w u) (quiet : IsQuiet w v) 
   holding : over.holds fs
   holding = subst (λ y. IsSomeAnd y (λ n. map (location_files n) stores ≡ map Some fs)) (sym at.has.folders) are
 
-  listed_here : (q : List ℕ) (l : Listing) → IfSome u.disk.files (λ m. IsListed m q l) → IsListed x.files q l
-  listed_here q l h = subst (λ y. IfSome y (λ m. IsListed m q l)) at.has.files h
+  file_here : (q : List ℕ) (indexes : List (List ℕ)) → IsSome_of (q ∷ indexes) → IsTrue (is_file q)
+  file_here q indexes some = file_among indexes_all files q (some q (among_first q indexes))
+
+  listed_here : (q : List ℕ) (l : Listing) → IsTrue (is_file q) → Spells (storage_of u) (storage_of v) q l → IsListed x.files q l
+  listed_here q l file h = subst (λ y. IfSome y (λ m. IsListed m q l)) at.has.files (spells_file q (storage_of u) (storage_of v) l file h)
 
   among : (q : List ℕ) (indexes : List (List ℕ)) (l : Listing) → IsSome_of (q ∷ indexes) → IsListed x.files q l → (id : List ℕ) (n : ℕ) → ListsSize l id n → Listed (kind_of l) id n
   among q indexes l some is id n lists = record { index = q; named = some q (among_first q indexes); listing = l; listed = is; lists = (refl, lists) }
@@ -132,23 +144,23 @@ module _ (x : Contents) (w u v : World) (at : IsAt x w u) (quiet : IsQuiet w v) 
       let g = some_not y filled.added.tells in
       (g.0, g.1, gains_on over fs holding Listed l (among q indexes l some is) f z g.0 before (subst (λ o. AddsListed over l (Some z) o) g.1 filled.added))
 
-  all_grown : (indexes : List (List ℕ)) → IsSome_of indexes → (z : Map (List ℕ)) → Gains z → (y : Option (Map (List ℕ))) → AllFilled over u.disk v.disk indexes (Some z) y → (g : Map (List ℕ)) × (y ≡ Some g) × Gains g
+  all_grown : (indexes : List (List ℕ)) → IsSome_of indexes → (z : Map (List ℕ)) → Gains z → (y : Option (Map (List ℕ))) → AllFilled over (storage_of u) (storage_of v) indexes (Some z) y → (g : Map (List ℕ)) × (y ≡ Some g) × Gains g
   all_grown [] some z before y h = (z, h, before)
   all_grown (q ∷ indexes) some z before y (l, listed, c, filled, rest) =
-      let g = gained q indexes l (Ok tt) some (listed_here q l listed) z before c filled in
-      all_grown indexes (λ p there. some p (among_later q p indexes there)) g.0 g.2 y (subst (λ o. AllFilled over u.disk v.disk indexes o y) g.1 rest)
+      let g = gained q indexes l (Ok tt) some (listed_here q l (file_here q indexes some) listed) z before c filled in
+      all_grown indexes (λ p there. some p (among_later q p indexes there)) g.0 g.2 y (subst (λ o. AllFilled over (storage_of u) (storage_of v) indexes o y) g.1 rest)
 
-  some_grown : (indexes : List (List ℕ)) → IsSome_of indexes → (z : Map (List ℕ)) → Gains z → (y : Option (Map (List ℕ))) (o : Outcome) → NotFilled over u.disk v.disk indexes (Some z) y o → (g : Map (List ℕ)) × (y ≡ Some g) × Gains g
+  some_grown : (indexes : List (List ℕ)) → IsSome_of indexes → (z : Map (List ℕ)) → Gains z → (y : Option (Map (List ℕ))) (o : Outcome) → NotFilled over (storage_of u) (storage_of v) indexes (Some z) y o → (g : Map (List ℕ)) × (y ≡ Some g) × Gains g
   some_grown [] some z before y o h = absurd h
   some_grown (q ∷ indexes) some z before y o (inl h) = (z, h.1, before)
-  some_grown (q ∷ indexes) some z before y o (inr (l, listed, inl (fault, is, filled))) = gained q indexes l (Err fault) some (listed_here q l listed) z before y filled
+  some_grown (q ∷ indexes) some z before y o (inr (l, listed, inl (fault, is, filled))) = gained q indexes l (Err fault) some (listed_here q l (file_here q indexes some) listed) z before y filled
   some_grown (q ∷ indexes) some z before y o (inr (l, listed, inr (c, filled, rest))) =
-      let g = gained q indexes l (Ok tt) some (listed_here q l listed) z before c filled in
-      some_grown indexes (λ p there. some p (among_later q p indexes there)) g.0 g.2 y o (subst (λ r. NotFilled over u.disk v.disk indexes r y o) g.1 rest)
+      let g = gained q indexes l (Ok tt) some (listed_here q l (file_here q indexes some) listed) z before c filled in
+      some_grown indexes (λ p there. some p (among_later q p indexes there)) g.0 g.2 y o (subst (λ r. NotFilled over (storage_of u) (storage_of v) indexes r y o) g.1 rest)
 
-  not_done : (indexes : List (List ℕ)) (z y : Option (Map (List ℕ))) (o : Outcome) → NotFilled over u.disk v.disk indexes z y o → o ≡ ends.Done → ⊥
+  not_done : (indexes : List (List ℕ)) (z y : Option (Map (List ℕ))) (o : Outcome) → NotFilled over (storage_of u) (storage_of v) indexes z y o → o ≡ ends.Done → ⊥
   not_done [] z y o h same = h
-  not_done (q ∷ indexes) z y o (inl h) same = subst (NotRead u.disk v.disk q) same h.0
+  not_done (q ∷ indexes) z y o (inl h) same = not_spelled_done q (storage_of u) (storage_of v) (subst (NotSpelled (storage_of u) (storage_of v) q) same h.0)
   not_done (q ∷ indexes) z y o (inr (l, listed, inl (fault, is, filled))) same = fault_not_done fault (sym is ∙ same)
   not_done (q ∷ indexes) z y o (inr (l, listed, inr (c, filled, rest))) same = not_done indexes c y o rest same
 
@@ -198,30 +210,30 @@ module _ (x : Contents) (w u v : World) (at : IsAt x w u) (quiet : IsQuiet w v) 
     all_given : (q : List ℕ) (indexes : List (List ℕ)) (l : Listing) (some : IsSome_of (q ∷ indexes)) (is : IsListed x.files q l) (z : Map (List ℕ)) → Gains z → (c : Option (Map (List ℕ))) → IndexFilled over l (Some z) c (Ok tt) → (i : ℕ) → i < count_of l → Given l i
     all_given q indexes l some is z before c filled i lt = given_first l (among q indexes l some is) z before i (exactly l (among q indexes l some is) z before c (Ok tt) filled i lt)
 
-    all_ordered : (indexes : List (List ℕ)) → IsSome_of indexes → (z : Map (List ℕ)) → Gains z → (y : Option (Map (List ℕ))) → AllFilled over u.disk v.disk indexes (Some z) y → FillsInOrder (chunks f) (map chunks fs) indexes x ends.Done x
+    all_ordered : (indexes : List (List ℕ)) → IsSome_of indexes → (z : Map (List ℕ)) → Gains z → (y : Option (Map (List ℕ))) → AllFilled over (storage_of u) (storage_of v) indexes (Some z) y → FillsInOrder (chunks f) (map chunks fs) indexes x ends.Done x
     all_ordered [] some z before y h = (refl, refl)
     all_ordered (q ∷ indexes) some z before y (l, listed, c, filled, rest) =
-        let is = listed_here q l listed in
+        let is = listed_here q l (file_here q indexes some) listed in
         let g = gained q indexes l (Ok tt) some is z before c filled in
         index_there x q l (Rest indexes) ends.Done x is (inr (
           all_given q indexes l some is z before c filled,
-          all_ordered indexes (λ p there. some p (among_later q p indexes there)) g.0 g.2 y (subst (λ o. AllFilled over u.disk v.disk indexes o y) g.1 rest),
+          all_ordered indexes (λ p there. some p (among_later q p indexes there)) g.0 g.2 y (subst (λ o. AllFilled over (storage_of u) (storage_of v) indexes o y) g.1 rest),
         ))
 
-    some_ordered : (indexes : List (List ℕ)) → IsSome_of indexes → (z : Map (List ℕ)) → Gains z → (y : Option (Map (List ℕ))) (o : Outcome) → NotFilled over u.disk v.disk indexes (Some z) y o → (o ≡ ends.Memory) ⊎ FillsInOrder (chunks f) (map chunks fs) indexes x o x
+    some_ordered : (indexes : List (List ℕ)) → IsSome_of indexes → (z : Map (List ℕ)) → Gains z → (y : Option (Map (List ℕ))) (o : Outcome) → NotFilled over (storage_of u) (storage_of v) indexes (Some z) y o → (o ≡ ends.Memory) ⊎ FillsInOrder (chunks f) (map chunks fs) indexes x o x
     some_ordered [] some z before y o h = absurd h
-    some_ordered (q ∷ indexes) some z before y o (inl h) = elim (index_unread x u.disk v.disk at.has.files (file_unrisen x w u v at quiet) q o h.0) [ inl none ↦ inl none | inr so ↦ inr (so (Rest indexes)) ]
+    some_ordered (q ∷ indexes) some z before y o (inl h) = elim (index_unread x u.disk v.disk at.has.files (file_unrisen x w u v at quiet) q o (not_spelled_file q (storage_of u) (storage_of v) o (file_here q indexes some) h.0)) [ inl none ↦ inl none | inr so ↦ inr (so (Rest indexes)) ]
     some_ordered (q ∷ indexes) some z before y o (inr (l, listed, inl (fault, same, filled))) =
-        let is = listed_here q l listed in
+        let is = listed_here q l (file_here q indexes some) listed in
         let lists = among q indexes l some is in
         elim (ended_by l lists z before fault y (exactly l lists z before y (Err fault) filled) filled.order) [
           | inl none ↦ inl (same ∙ none)
           | inr names ↦ inr (index_there x q l (Rest indexes) o x is (inl (subst (NamesLacking l (Given l) (map chunks fs)) (sym same) names)))
         ]
     some_ordered (q ∷ indexes) some z before y o (inr (l, listed, inr (c, filled, rest))) =
-        let is = listed_here q l listed in
+        let is = listed_here q l (file_here q indexes some) listed in
         let g = gained q indexes l (Ok tt) some is z before c filled in
-        elim (some_ordered indexes (λ p there. some p (among_later q p indexes there)) g.0 g.2 y o (subst (λ r. NotFilled over u.disk v.disk indexes r y o) g.1 rest)) [
+        elim (some_ordered indexes (λ p there. some p (among_later q p indexes there)) g.0 g.2 y o (subst (λ r. NotFilled over (storage_of u) (storage_of v) indexes r y o) g.1 rest)) [
           | inl none ↦ inl none
           | inr so ↦ inr (index_there x q l (Rest indexes) o x is (inr (all_given q indexes l some is z before c filled, so)))
         ]
@@ -248,12 +260,12 @@ module _ (x : Contents) (w u v : World) (at : IsAt x w u) (quiet : IsQuiet w v) 
         printed = ap (λ o. o.taken) h.1 ∙ at.has.printed;
       }
 
-      is_cached : (g : Map (List ℕ)) → b.now ≡ Some g → AllFilled over u.disk v.disk indexes_all b.held b.now → IsCached x.files x.folders (at_name x.folders cache (Some g)) cache indexes_all
-      is_cached g is filled = over_all over u.disk v.disk cache indexes_all (Some x.files) (Some x.folders) (Some (at_name x.folders cache (Some g))) b.held b.now at.has.files (f, there, was) (ap (λ o. Some (at_name x.folders cache o)) (sym is)) filled
+      is_cached : (g : Map (List ℕ)) → b.now ≡ Some g → AllFilled over (storage_of u) (storage_of v) indexes_all b.held b.now → IsCached (IsListed x.files) x.folders (at_name x.folders cache (Some g)) cache indexes_all
+      is_cached g is filled = over_all over (storage_of u) (storage_of v) (IsListed x.files) cache indexes_all (Some x.folders) (Some (at_name x.folders cache (Some g))) b.held b.now (λ q has l. listed_here q l (file_among indexes_all files q has)) (f, there, was) (ap (λ o. Some (at_name x.folders cache o)) (sym is)) filled
 
-      go : (r : Result Unit Outcome) → FillsEach over u.disk v.disk indexes_all b.held b.now r → EndsSo x v (Caches (map chunks fs) cache indexes_all f) (outcome_of r)
+      go : (r : Result Unit Outcome) → FillsEach over (storage_of u) (storage_of v) indexes_all b.held b.now r → EndsSo x v (Caches (map chunks fs) cache indexes_all f) (outcome_of r)
       go (Ok _) filled =
-          let from : AllFilled over u.disk v.disk indexes_all (Some f) b.now = subst (λ o. AllFilled over u.disk v.disk indexes_all o b.now) was filled in
+          let from : AllFilled over (storage_of u) (storage_of v) indexes_all (Some f) b.now = subst (λ o. AllFilled over (storage_of u) (storage_of v) indexes_all o b.now) was filled in
           let g = all_grown indexes_all every f (gains_none Listed (map chunks fs) f) b.now from in
           inr (
             with_folder x cache g.0,
@@ -267,7 +279,7 @@ module _ (x : Contents) (w u v : World) (at : IsAt x w u) (quiet : IsQuiet w v) 
       go (Err o) filled = elim (is_memory o) [
         | inl none ↦ inl none
         | inr other ↦
-            let from : NotFilled over u.disk v.disk indexes_all (Some f) b.now o = subst (λ z. NotFilled over u.disk v.disk indexes_all z b.now o) was filled in
+            let from : NotFilled over (storage_of u) (storage_of v) indexes_all (Some f) b.now o = subst (λ z. NotFilled over (storage_of u) (storage_of v) indexes_all z b.now o) was filled in
             let g = some_grown indexes_all every f (gains_none Listed (map chunks fs) f) b.now o from in
             inr (
               with_folder x cache g.0,
@@ -281,10 +293,10 @@ module _ (x : Contents) (w u v : World) (at : IsAt x w u) (quiet : IsQuiet w v) 
       ]
 
 module _ (x : Contents) (w v : World) (quiet : IsQuiet w v) where
-  pub caches_so : (stores : List Location) (cache : List ℕ) (most : ℕ) (indexes : List (List ℕ)) → IsTrue (are_folders stores) → HasContents w x → (r : Result Unit Outcome) → CacheEnds stores cache most indexes w r v
+  pub caches_so : (stores : List Location) (cache : List ℕ) (most : ℕ) (indexes : List (List ℕ)) → IsTrue (are_folders stores) → IsTrue (are_files indexes) → HasContents w x → (r : Result Unit Outcome) → CacheEnds stores cache most indexes w r v
       → EndsSo x v (folders_at stores (λ fs. folder_at cache (Caches (map chunks fs) cache indexes))) (outcome_of r)
-  caches_so stores cache most indexes all has = stores_so x w v quiet stores all (λ fs. folder_at cache (Caches (map chunks fs) cache indexes))
+  caches_so stores cache most indexes all files has = stores_so x w v quiet stores all (λ fs. folder_at cache (Caches (map chunks fs) cache indexes))
       (λ _. OnDisk (CacheOpened stores (Some cache)) >>= (λ _. OnStorage (IndexesFilled stores cache most indexes)))
       (λ fs e at are. cache_so x w v quiet stores cache (Caches (map chunks fs) cache indexes) (λ _. OnStorage (IndexesFilled stores cache most indexes))
-      (λ f u after there. filled_so x w u v after quiet stores fs are cache indexes f there most) e at)
+      (λ f u after there. filled_so x w u v after quiet stores fs are cache indexes files f there most) e at)
       w (at_first x w has)

@@ -14,6 +14,7 @@ use Rattle.chunk_store.specs.declared.id.ChunkId.{ChunkId}
 use Rattle.chunk_store.specs.declared.id.DigestKind.{DigestKind}
 use Rattle.command_outcome.specs.declared.outcome.Outcome.{Outcome}
 use Rattle.command_outcome.specs.declared.outcome.Outcome.TheVariants as ends
+use Rattle.command_indexes.specs.Places.{is_file}
 use Rattle.command_steps.proofs.Taken.{at_name_twice}
 use Rattle.command_steps.specs.Cache.{CacheOpened}
 use Rattle.command_steps.specs.Seeds.{IndexesRead, image_name}
@@ -293,9 +294,9 @@ module _ (x : Contents) (w v : World) (quiet : IsQuiet w v) (sure : NeverFail) (
   abbrev seeds_of : List Listing → Seeds
   seeds_of ls = record { images = map image_name seeds; listings = ls }
 
-  pub extracts_so : HasContents w x → (r : Result Unit Outcome) → ExtractEnds sure stores cache seeds place index out w r v
+  pub extracts_so : IsTrue (is_file index) → HasContents w x → (r : Result Unit Outcome) → ExtractEnds sure stores cache seeds place index out w r v
       → EndsSo x v (index_at index (λ l. indexes_at 0 seeds (λ ls. folders_at stores (λ fs. folders_at (map locations.Folder (folder_of cache)) (λ cs. Extracts l (seeds_of ls) fs cs cache place out))))) (outcome_of r)
-  extracts_so has = index_so x w v quiet index (λ l. indexes_at 0 seeds (λ ls. folders_at stores (λ fs. folders_at (map locations.Folder (folder_of cache)) (λ cs. Extracts l (seeds_of ls) fs cs cache place out))))
+  extracts_so file has = index_so x w v quiet index file (λ l. indexes_at 0 seeds (λ ls. folders_at stores (λ fs. folders_at (map locations.Folder (folder_of cache)) (λ cs. Extracts l (seeds_of ls) fs cs cache place out))))
       (λ l. OnDisk (IndexesRead seeds) >>= (λ ls. OnDisk (SourcesOpened stores) >>= (λ _. OnDisk (CacheOpened stores cache) >>= (λ _. OutMade sure place stores cache out l (seeds_of ls)))))
       (λ l e at is. indexes_so x w v quiet seeds (λ ls. folders_at stores (λ fs. folders_at (map locations.Folder (folder_of cache)) (λ cs. Extracts l (seeds_of ls) fs cs cache place out)))
       (λ ls. OnDisk (SourcesOpened stores) >>= (λ _. OnDisk (CacheOpened stores cache) >>= (λ _. OutMade sure place stores cache out l (seeds_of ls))))

@@ -1,5 +1,5 @@
 -- What the commands over one folder answer and leave where nothing fails: `verify` and `prune`.
-use Rattle.std.proofs.Common.{ap, cond, ◌≡◌, ◌≢◌, ◌∙◌, ℕ, Bool, List, [], ◌++◌, Option, Some, None, refl, sym, inl, inr, Result, Ok, Err}
+use Rattle.std.proofs.Common.{ap, cond, ◌≡◌, ◌≢◌, ◌∙◌, ℕ, Bool, IsTrue, List, [], ◌++◌, Option, Some, None, refl, sym, inl, inr, Result, Ok, Err}
 use Rattle.std.proofs.lemmas.Bool.{ne_eqb}
 use Rattle.std.specs.Option.{option_map}
 use Rattle.caibx_codec.specs.Listing.{Listing}
@@ -8,10 +8,11 @@ use Rattle.command_outcome.specs.declared.outcome.Outcome.{Outcome}
 use Rattle.command_outcome.specs.declared.outcome.Outcome.TheVariants as ends
 use Rattle.command_steps.proofs.Numbers.{rose_not_quiet}
 use Rattle.command_steps.proofs.Taken.{at_name_twice}
+use Rattle.command_indexes.specs.Places.{are_files}
 use Rattle.command_steps.specs.Stores.{StoreTaken}
 use Rattle.command_worlds.specs.Steps.{◌>>=◌, answer_of, outcome_of}
 use Rattle.command_worlds.specs.Worlds.{OnDisk, World}
-use Rattle.desync_cli.proofs.Readings.{EndsSo, IsAt, IsQuiet, at_first, folder_unrisen, indexes_so, taken_so}
+use Rattle.desync_cli.proofs.Readings.{EndsSo, IsAt, IsQuiet, at_first, folder_unrisen, indexes_got_so, taken_so}
 use Rattle.desync_cli.specs.Contents.{Contents, Ending, HasContents, folder_at, indexes_at, with_folder}
 use Rattle.desync_cli.specs.Exact.{Verifies}
 use Rattle.dsy_base.specs.Maps.{Map, at_name}
@@ -50,9 +51,9 @@ module _ (x : Contents) (w v : World) (quiet : IsQuiet w v) where
   abbrev Prunes : List ℕ → List Listing → Map (List ℕ) → Ending
   Prunes q ls f x o y = (o ≡ ends.Done) × (y ≡ with_folder x q (pruned (is_listed_in ls) f))
 
-  pub prunes_so : (store : List ℕ) (indexes : List (List ℕ)) → HasContents w x → (r : Result Unit Outcome) → PruneEnds store indexes w r v
+  pub prunes_so : (store : List ℕ) (indexes : List (List ℕ)) → IsTrue (are_files indexes) → HasContents w x → (r : Result Unit Outcome) → PruneEnds store indexes w r v
       → EndsSo x v (indexes_at 0 indexes (λ ls. folder_at store (Prunes store ls))) (outcome_of r)
-  prunes_so store indexes has = indexes_so x w v quiet indexes (λ ls. folder_at store (Prunes store ls)) (λ ls. OnDisk (StoreTaken [] store) >>= (λ held. OnDisk (StorePruned (is_listed_in ls) store held)))
+  prunes_so store indexes files has = indexes_got_so x w v quiet indexes files (λ ls. folder_at store (Prunes store ls)) (λ ls. OnDisk (StoreTaken [] store) >>= (λ held. OnDisk (StorePruned (is_listed_in ls) store held)))
       (λ ls e at. taken_so x w v quiet [] store (Prunes store ls) (λ held. OnDisk (StorePruned (is_listed_in ls) store held)) (λ f u there after. pruned_so (is_listed_in ls) store f u after) e at)
       w (at_first x w has)
 

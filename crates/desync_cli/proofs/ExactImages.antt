@@ -15,6 +15,7 @@ use Rattle.chunk_store.specs.declared.id.DigestKind.{DigestKind}
 use Rattle.command_outcome.specs.declared.outcome.Outcome.{Outcome}
 use Rattle.command_outcome.specs.declared.outcome.Outcome.TheVariants as ends
 use Rattle.command_steps.proofs.Taken.{at_name_twice}
+use Rattle.command_indexes.specs.Places.{is_file}
 use Rattle.command_steps.specs.InputFiles.{ImageOpened}
 use Rattle.command_steps.specs.Sources.{OnStorage, storage_of}
 use Rattle.command_steps.specs.Stores.{are_folders, folder_name}
@@ -146,11 +147,11 @@ module _ (x : Contents) (w v : World) (quiet : IsQuiet w v) (q : List ℕ) (f : 
         written_so bytes g.0 e after h.0.0 g.2 r rest)
 
 module _ (x : Contents) (w v : World) (quiet : IsQuiet w v) where
-  pub chops_so : (store : Location) (index image : List ℕ) → IsTrue (are_folders (store ∷ [])) → HasContents w x → (r : Result Unit Outcome) → ChopEnds store index image w r v
+  pub chops_so : (store : Location) (index image : List ℕ) → IsTrue (are_folders (store ∷ [])) → IsTrue (is_file index) → HasContents w x → (r : Result Unit Outcome) → ChopEnds store index image w r v
       → EndsSo x v (index_at index (λ l. image_at image (λ t. folder_at (folder_name store) (Chops l t (folder_name store))))) (outcome_of r)
-  chops_so (locations.Http host port prefix) index image all has r h = let no : false ≡ true = all in absurd (cc)
-  chops_so (locations.Folder q) index image all has r h =
-      index_so x w v quiet index (λ l. image_at image (λ t. folder_at q (Chops l t q)))
+  chops_so (locations.Http host port prefix) index image all file has r h = let no : false ≡ true = all in absurd (cc)
+  chops_so (locations.Folder q) index image all file has r h =
+      index_so x w v quiet index file (λ l. image_at image (λ t. folder_at q (Chops l t q)))
       (λ l. OnDisk (ImageOpened image) >>= (λ told. OnDisk (SourceTaken (image ∷ []) (locations.Folder q)) >>= (λ held. OnStorage (ImageChopped l image told (locations.Folder q) held))))
       (λ l e at is. image_so x w v quiet image (λ t. folder_at q (Chops l t q))
       (λ told. OnDisk (SourceTaken (image ∷ []) (locations.Folder q)) >>= (λ held. OnStorage (ImageChopped l image told (locations.Folder q) held)))

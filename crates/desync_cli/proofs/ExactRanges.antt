@@ -10,6 +10,7 @@ use Rattle.chunk_store.specs.declared.id.ChunkId.{ChunkId}
 use Rattle.chunk_store.specs.declared.shows.Shows.{Shows}
 use Rattle.command_outcome.specs.declared.outcome.Outcome.{Outcome}
 use Rattle.command_outcome.specs.declared.outcome.Outcome.TheVariants as ends
+use Rattle.command_indexes.specs.Places.{is_file}
 use Rattle.command_steps.proofs.Numbers.{rose_not_quiet}
 use Rattle.command_steps.specs.Sources.{ConsultsStores, StoreRose, location_files, said_at, storage_of}
 use Rattle.command_steps.specs.Stores.{are_folders}
@@ -85,9 +86,9 @@ module _ (x : Contents) (w v : World) (quiet : IsQuiet w v) where
     range_so (Err ends.Memory) h = inl refl
     range_so (Err other) h = absurd h.0
 
-  pub puts_so : (stores : List Location) (offset : ℕ) (size : Option ℕ) (index : List ℕ) → IsTrue (are_folders stores) → HasContents w x → (r : Result Unit Outcome) → CatEnds stores offset size index w r v
+  pub puts_so : (stores : List Location) (offset : ℕ) (size : Option ℕ) (index : List ℕ) → IsTrue (are_folders stores) → IsTrue (is_file index) → HasContents w x → (r : Result Unit Outcome) → CatEnds stores offset size index w r v
       → EndsSo x v (index_at index (λ l. folders_at stores (λ fs. PrintsRange l offset (range_size l offset size) (map chunks fs)))) (outcome_of r)
-  puts_so stores offset size index all has = index_so x w v quiet index (λ l. folders_at stores (λ fs. PrintsRange l offset (range_size l offset size) (map chunks fs))) (λ l. PutFrom stores l offset (range_size l offset size))
+  puts_so stores offset size index all file has = index_so x w v quiet index file (λ l. folders_at stores (λ fs. PrintsRange l offset (range_size l offset size) (map chunks fs))) (λ l. PutFrom stores l offset (range_size l offset size))
       (λ l e at is. stores_so x w v quiet stores all (λ fs. PrintsRange l offset (range_size l offset size) (map chunks fs)) (λ _. RangePut stores l offset (range_size l offset size))
       (λ fs u here are. range_so l (rules_hold l is.file.valid) offset (range_size l offset size) stores all fs are u here) e at)
       w (at_first x w has)

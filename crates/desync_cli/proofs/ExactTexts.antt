@@ -8,6 +8,7 @@ use Rattle.chunk_store.specs.declared.id.DigestKind.{DigestKind}
 use Rattle.command_outcome.specs.declared.outcome.Outcome.{Outcome}
 use Rattle.command_outcome.specs.declared.outcome.Outcome.TheVariants as ends
 use Rattle.command_steps.proofs.Numbers.{rose_not_quiet}
+use Rattle.command_indexes.specs.Places.{is_file}
 use Rattle.command_steps.specs.InputFiles.{ImageOpened}
 use Rattle.command_steps.specs.Sources.{IsThere, OnStorage, StoreRose, location_files, said_at, storage_of}
 use Rattle.command_steps.specs.Stores.{are_folders}
@@ -42,8 +43,8 @@ module _ (x : Contents) (w v : World) (quiet : IsQuiet w v) where
   prints_so text u at (Err ends.Memory) h = inl refl
   prints_so text u at (Err other) h = absurd h.0.0
 
-  pub lists_so : (index : List ℕ) → HasContents w x → (r : Result Unit Outcome) → ListChunksEnds index w r v → EndsSo x v (index_at index (λ l. PrintsText (text_of_chunks l))) (outcome_of r)
-  lists_so index has = index_so x w v quiet index (λ l. PrintsText (text_of_chunks l)) (λ l. OnOut (Printed (text_of_chunks l))) (λ l e at is. prints_so (text_of_chunks l) e at) w (at_first x w has)
+  pub lists_so : (index : List ℕ) → IsTrue (is_file index) → HasContents w x → (r : Result Unit Outcome) → ListChunksEnds index w r v → EndsSo x v (index_at index (λ l. PrintsText (text_of_chunks l))) (outcome_of r)
+  lists_so index file has = index_so x w v quiet index file (λ l. PrintsText (text_of_chunks l)) (λ l. OnOut (Printed (text_of_chunks l))) (λ l e at is. prints_so (text_of_chunks l) e at) w (at_first x w has)
 
   -- ---- `verify-index`
 
@@ -61,9 +62,9 @@ module _ (x : Contents) (w v : World) (quiet : IsQuiet w v) where
     | inr so ↦ inr (x, (at_read x w u v at h.0.1 h.2).has, (so, refl))
   ]
 
-  pub verifies_index_so : (index image : List ℕ) → HasContents w x → (r : Result Unit Outcome) → VerifyIndexEnds index image w r v
+  pub verifies_index_so : (index image : List ℕ) → IsTrue (is_file index) → HasContents w x → (r : Result Unit Outcome) → VerifyIndexEnds index image w r v
       → EndsSo x v (index_at index (λ l. image_at image (λ t. λ x o y. IsCompared l t o × (y ≡ x)))) (outcome_of r)
-  verifies_index_so index image has = index_so x w v quiet index (λ l. image_at image (λ t. λ x o y. IsCompared l t o × (y ≡ x))) (λ l. OnDisk (ImageOpened image) >>= (λ told. OnDisk (ImageChecked image l told)))
+  verifies_index_so index image file has = index_so x w v quiet index file (λ l. image_at image (λ t. λ x o y. IsCompared l t o × (y ≡ x))) (λ l. OnDisk (ImageOpened image) >>= (λ told. OnDisk (ImageChecked image l told)))
       (λ l e at is. image_so x w v quiet image (λ t. λ x o y. IsCompared l t o × (y ≡ x)) (λ told. OnDisk (ImageChecked image l told)) (λ t. checked_so image l t) e at)
       w (at_first x w has)
 
@@ -110,8 +111,8 @@ module _ (x : Contents) (w v : World) (quiet : IsQuiet w v) where
       ])
       (λ n e r h rest. counted_so l stores all u e at (at_read x w u e at h.0.1.0.disk h.1) n h.0.0 r rest)
 
-  pub tells_so : (stores : List Location) (index : List ℕ) → IsTrue (are_folders stores) → HasContents w x → (r : Result Unit Outcome) → InfoEnds stores index w r v → EndsSo x v (index_at index (λ l. folders_at stores (Informs l))) (outcome_of r)
-  tells_so stores index all has = index_so x w v quiet index (λ l. folders_at stores (Informs l)) (λ l. OnStorage (IdsCounted stores l) >>= (λ n. OnOut (Printed (text_of_info l n)))) (λ l e at is. informs_so l stores all e at) w (at_first x w has)
+  pub tells_so : (stores : List Location) (index : List ℕ) → IsTrue (are_folders stores) → IsTrue (is_file index) → HasContents w x → (r : Result Unit Outcome) → InfoEnds stores index w r v → EndsSo x v (index_at index (λ l. folders_at stores (Informs l))) (outcome_of r)
+  tells_so stores index all file has = index_so x w v quiet index file (λ l. folders_at stores (Informs l)) (λ l. OnStorage (IdsCounted stores l) >>= (λ n. OnOut (Printed (text_of_info l n)))) (λ l e at is. informs_so l stores all e at) w (at_first x w has)
 
   -- ---- `demo`
 

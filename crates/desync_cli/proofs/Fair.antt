@@ -1,6 +1,6 @@
 -- What each command leaves, and what its refusals tell: a lemma for each step of its own, and a line a command.
-use Rattle.std.proofs.Common.{◌≡◌, ◌==◌, ℕ, zero, suc, List, [], ◌∷◌, map, All, IfSome, IsSomeAnd, Bool, IsTrue, is_some, not, true, false, Option, Some, None, Result, Ok, Err, refl, sym, subst, inl, inr, arith, cond}
-use Rattle.std.specs.List.{Any}
+use Rattle.std.proofs.Common.{◌≡◌, ◌==◌, ◌&&◌, ℕ, zero, suc, List, [], ◌∷◌, map, All, IfSome, IsSomeAnd, Bool, IsTrue, is_some, not, true, false, Option, Some, None, Result, Ok, Err, refl, sym, subst, inl, inr, arith, cond}
+use Rattle.std.specs.List.{Any, Contains}
 use Rattle.std.specs.Map.{count_at}
 use Rattle.buzhash_cut.specs.Sizes.{Sizes}
 use Rattle.caibx_codec.specs.Listing.{Listing, id_of, kind_of, size_of}
@@ -11,17 +11,24 @@ use Rattle.command_help.specs.declared.help.Topic.TheVariants as topics
 use Rattle.command_line.specs.CommandLine.{command_line}
 use Rattle.command_outcome.specs.declared.outcome.Outcome.{Outcome}
 use Rattle.command_outcome.specs.declared.outcome.Outcome.TheVariants as ends
-use Rattle.command_steps.specs.Blames.{Blames, Keeps, Parts, Spares}
+use Rattle.command_indexes.proofs.Fair.{got_step, indexes_got_step, not_spelled_fair}
+use Rattle.command_indexes.specs.Places.{are_files, is_file}
+use Rattle.command_steps.specs.Blames.{Blames, IndexRose, IsUnfetched, Keeps, Parts, Spares}
 use Rattle.command_words.specs.declared.command.Command.{Command}
 use Rattle.command_words.specs.declared.command.Command.TheVariants as commands
 use Rattle.command_words.specs.declared.command.Location.{Location}
 use Rattle.command_words.specs.declared.command.Location.TheVariants as locations
+use Rattle.command_words.specs.Limits.{Fits}
+use Rattle.command_words.specs.Locations.{index_place_of}
+use Rattle.command_words.specs.declared.location.IndexPlace.{IndexPlace}
+use Rattle.command_words.specs.declared.location.IndexPlace.TheVariants as places
+use Rattle.command_words.specs.declared.location.NoLocation.{NoLocation}
 use Rattle.command_words.specs.declared.usage.WordsFault.{WordsFault}
-use Rattle.desync_cli.specs.Unfailed.{NothingFailed, RepliesTaken}
+use Rattle.desync_cli.specs.Unfailed.{FetchTaken, IndexTaken, NothingFailed, RepliesTaken}
 use Rattle.command_worlds.specs.Steps.{Passed, answer_of, outcome_of}
 use Rattle.command_worlds.specs.Worlds.{FileRose, FolderRose, NoFault, Step, World, Writes, world}
 use Rattle.command_steps.proofs.Dialed.{dials_same}
-use Rattle.command_steps.proofs.Fair.{IsFair, IsLeft, IsRefusal, IsStep, Unread, adds, behind, between, bound, consults, cache_step, fair_longer, image_step, index_step, indexes_step, left_twice, on_disk, on_out, on_sources, printed_step, pure_step, reads, round, source_failed, source_taken_step, sources_fair, sources_step, taken_step, whole, writes, unread_fair}
+use Rattle.command_steps.proofs.Fair.{IsFair, IsLeft, IsRefusal, IsStep, Unread, adds, behind, between, bound, consults, cache_step, fair_longer, image_step, indexes_step, left_twice, on_disk, on_out, on_sources, printed_step, pure_step, reads, round, source_failed, source_taken_step, sources_fair, sources_step, taken_step, whole, writes}
 use Rattle.command_steps.proofs.Numbers.{rose_not_quiet}
 use Rattle.cache_command.specs.Caching.{EndsFilling, FillTells, IndexesFilled, NotFilled, of_command, outcome_of_fill}
 use Rattle.cat_command.specs.Cat.{RangePut, range_size}
@@ -142,20 +149,21 @@ module _ (x : Parts) (p : Output) (w v : Storage) where
   ends_fair l held files fault (inl none) = subst (λ f. IsFair x (outcome_of_fill f) (behind p w) (behind p v)) (sym none.0) (tt, tt)
   ends_fair l held files fault (inr h) = fill_fair l files h.entry fault h.tells
 
-  each_fair : (indexes : List (List ℕ)) (held files : Option (Map (List ℕ))) (o : Outcome) → NotFilled (of_command w v x.stores x.cache) w.disk v.disk indexes held files o → IsFair x o (behind p w) (behind p v)
-  each_fair [] held files o h = absurd h
-  each_fair (q ∷ indexes) held files o (inl h) = unread_fair x (behind p w) (behind p v) q o h.0
-  each_fair (q ∷ indexes) held files o (inr (l, listed, inl (fault, is, filled))) = subst (λ r. IsFair x r (behind p w) (behind p v)) (sym is) (ends_fair l held files fault filled.order)
-  each_fair (q ∷ indexes) held files o (inr (l, listed, inr (z, filled, rest))) = each_fair indexes z files o rest
+  each_fair : (indexes : List (List ℕ)) → ((q : List ℕ) → Contains indexes q → Contains x.indexes q) → (held files : Option (Map (List ℕ))) (o : Outcome) → NotFilled (of_command w v x.stores x.cache) w v indexes held files o → IsFair x o (behind p w) (behind p v)
+  each_fair [] among held files o h = absurd h
+  each_fair (q ∷ indexes) among held files o (inl h) = not_spelled_fair x p w v q (among q (0, omega arith, refl)) o h.0
+  each_fair (q ∷ indexes) among held files o (inr (l, listed, inl (fault, is, filled))) = subst (λ r. IsFair x r (behind p w) (behind p v)) (sym is) (ends_fair l held files fault filled.order)
+  each_fair (q ∷ indexes) among held files o (inr (l, listed, inr (z, filled, rest))) = each_fair indexes (λ a has. among a (suc has.0, omega (arith, has.1), has.2)) z files o rest
 
-filled_step : (f o : Bool) (x : Parts) (p : Output) (most : ℕ) (indexes : List (List ℕ)) → IsStep (behind p) (record { files = f; folders = false; dial = are_folders x.stores; out = o }) x (IndexesFilled x.stores x.cache most indexes)
-filled_step f o x p most indexes = record {
-  fair = λ w v r h. each_fair x p w v indexes h.held h.now r h.filled;
+filled_step : (f o : Bool) (x : Parts) (p : Output) (most : ℕ) (indexes : List (List ℕ)) → ((q : List ℕ) → Contains indexes q → Contains x.indexes q)
+    → IsStep (behind p) (record { files = f; folders = false; dial = are_folders x.stores && are_files indexes; out = o }) x (IndexesFilled x.stores x.cache most indexes)
+filled_step f o x p most indexes among = record {
+  fair = λ w v r h. each_fair x p w v indexes among h.held h.now r h.filled;
   leaves = λ w v r h. record {
-    keeps = record { files = λ t. h.adds.files; folders = λ t. absurd (cc); dial = h.dials.1; out = λ t. refl };
+    keeps = record { files = λ t. h.adds.files; folders = λ t. absurd (cc); dial = h.undialed; out = λ t. refl };
     files = h.adds.counts;
     folders = h.adds.folder_counts;
-    dial = h.dials.0;
+    dial = h.dials;
     out = omega arith;
   };
 }
@@ -314,17 +322,41 @@ rehearsed_fair x kind number size other w v h = absurd h
 
 -- ---- the commands
 
+-- a step that spares the dialer spares it where more is wanted for that
+dial_less : {W A : Type 0} {at : W → World} {s : Spares} {d : Bool} {x : Parts} {step : W → Result A Outcome → W → Type 0} → (IsTrue d → IsTrue s.dial) → IsStep at s x step → IsStep at (record { files = s.files; folders = s.folders; dial = d; out = s.out }) x step
+dial_less {W} {A} {at} {s} {d} {x} {step} on k = record { fair = k.fair; leaves = leaves } where
+  leaves : (w v : W) (r : Result A Outcome) → step w r v → IsLeft (record { files = s.files; folders = s.folders; dial = d; out = s.out }) (at w) (at v)
+  leaves w v r h = let left = k.leaves w v r h in record {
+    keeps = record { files = left.keeps.files; folders = left.keeps.folders; dial = λ t. left.keeps.dial (on t); out = left.keeps.out };
+    files = left.files;
+    folders = left.folders;
+    dial = left.dial;
+    out = left.out;
+  }
+
+-- the operand of a command that has one index
+the_one : (q : List ℕ) → Contains (q ∷ []) q
+the_one q = (0, omega arith, refl)
+
+first : (a b : Bool) → IsTrue (a && b) → IsTrue a
+first true b t = refl
+first false b t = absurd (cc)
+
+second : (a b : Bool) → IsTrue (a && b) → IsTrue b
+second true b t = t
+second false b t = absurd (cc)
+
 command_step : (sure : Bool) (h : Heard) (c : Command) → IsStep whole (spares c) (parts h c) (CommandEnds sure h c)
 command_step sure h (commands.Make store sizes workers digest index image) = bound (pure_step (SizesJudged sizes) (judged_fair (parts h (commands.Make store sizes workers digest index image)) sizes)) (λ z. bound (on_disk (λ p. image_step _ _ p)) (λ told. bound (on_disk (λ p. source_taken_step _ _ _ _ p _ store)) (λ held. bound (on_sources (λ p. stored_step _ p store refl _ _ digest z told held)) (λ bytes. on_disk (λ p. written_step _ _ _ _ p index bytes)))))
-command_step sure h (commands.VerifyIndex workers index image) = bound (on_disk (λ p. index_step _ _ p index)) (λ l. bound (on_disk (λ p. image_step _ _ p)) (λ told. on_disk (λ p. checked_step _ _ p l told)))
-command_step sure h (commands.Chop store workers index image) = bound (on_disk (λ p. index_step _ _ p index)) (λ l. bound (on_disk (λ p. image_step _ _ p)) (λ told. bound (on_disk (λ p. source_taken_step _ _ _ _ p _ store)) (λ held. on_sources (λ p. chopped_step _ p store refl _ _ l told held))))
-command_step sure h (commands.Cache stores cache workers indexes) = bound (on_disk (λ p. sources_step _ _ p stores)) (λ u. bound (on_disk (λ p. cache_step _ _ p stores (Some cache))) (λ u. on_sources (λ p. filled_step _ _ (parts h (commands.Cache stores cache workers indexes)) p workers indexes)))
-command_step sure h (commands.ListChunks index) = bound (on_disk (λ p. index_step _ _ p index)) (λ l. on_out (λ d. printed_step _ _ _ _ d (text_of_chunks l)))
-command_step sure h (commands.Extract stores seeds cache in_place workers index target) = bound (on_disk (λ p. index_step _ _ p index)) (λ l. bound (on_disk (λ p. indexes_step _ _ p seeds)) (λ ls. bound (on_disk (λ p. sources_step _ _ p stores)) (λ u. bound (on_disk (λ p. cache_step _ _ p stores cache)) (λ u. out_step (never_fail sure h.never_fails) _ (parts h (commands.Extract stores seeds cache in_place workers index target)) cache l (record { images = map image_name seeds; listings = ls }) in_place target refl))))
-command_step sure h (commands.Cat stores offset length index) = bound (on_disk (λ p. index_step _ _ p index)) (λ l. bound (on_disk (λ p. sources_step _ _ p stores)) (λ u. put_step (parts h (commands.Cat stores offset length index)) l offset (range_size l offset length)))
-command_step sure h (commands.Info stores index) = bound (on_disk (λ p. index_step _ _ p index)) (λ l. bound (on_sources (λ p. counted_step _ _ p (λ t. t) l)) (λ n. on_out (λ d. printed_step _ _ _ _ d (text_of_info l n))))
+command_step sure h (commands.VerifyIndex workers index image) = bound (on_sources (λ p. got_step p index (the_one index) (λ t. t))) (λ l. bound (on_disk (λ p. image_step _ _ p)) (λ told. on_disk (λ p. checked_step _ _ p l told)))
+command_step sure h (commands.Chop store workers index image) = bound (on_sources (λ p. got_step p index (the_one index) (second (is_folder store) (is_file index)))) (λ l. bound (on_disk (λ p. image_step _ _ p)) (λ told. bound (on_disk (λ p. source_taken_step _ _ _ _ p _ store)) (λ held. on_sources (λ p. dial_less (first (is_folder store) (is_file index)) (chopped_step _ p store refl _ _ l told held)))))
+command_step sure h (commands.Cache stores cache workers indexes) = bound (on_disk (λ p. sources_step _ _ p stores)) (λ u. bound (on_disk (λ p. cache_step _ _ p stores (Some cache))) (λ u. on_sources (λ p. filled_step _ _ (parts h (commands.Cache stores cache workers indexes)) p workers indexes (λ q has. has))))
+command_step sure h (commands.ListChunks index) = bound (on_sources (λ p. got_step p index (the_one index) (λ t. t))) (λ l. on_out (λ d. printed_step _ _ _ _ d (text_of_chunks l)))
+command_step sure h (commands.Extract stores seeds cache in_place workers index target) = bound (on_sources (λ p. got_step p index (the_one index) (second (are_folders stores) (is_file index)))) (λ l. bound (on_disk (λ p. indexes_step _ _ p seeds)) (λ ls. bound (on_disk (λ p. sources_step _ _ p stores)) (λ u. bound (on_disk (λ p. cache_step _ _ p stores cache)) (λ u. dial_less (first (are_folders stores) (is_file index)) (out_step (never_fail sure h.never_fails) _ (parts h (commands.Extract stores seeds cache in_place workers index target)) cache l (record { images = map image_name seeds; listings = ls }) in_place target refl)))))
+command_step sure h (commands.Cat stores offset length index) = bound (on_sources (λ p. got_step p index (the_one index) (second (are_folders stores) (is_file index)))) (λ l. bound (on_disk (λ p. sources_step _ _ p stores)) (λ u. dial_less (first (are_folders stores) (is_file index)) (put_step (parts h (commands.Cat stores offset length index)) l offset (range_size l offset length))))
+command_step sure h (commands.Info stores index) = bound (on_sources (λ p. got_step p index (the_one index) (second (are_folders stores) (is_file index)))) (λ l. bound (on_sources (λ p. counted_step _ _ p (first (are_folders stores) (is_file index)) l)) (λ n. on_out (λ d. printed_step _ _ _ _ d (text_of_info l n))))
 command_step sure h (commands.Verify store repair workers digest) = bound (on_disk (λ p. taken_step _ _ _ _ p [] store)) (λ held. verified_step _ _ digest store repair held refl)
-command_step sure h (commands.Prune store indexes) = bound (on_disk (λ p. indexes_step _ _ p indexes)) (λ ls. bound (on_disk (λ p. taken_step _ _ _ _ p [] store)) (λ held. on_disk (λ p. pruned_step _ _ _ _ p (is_listed_in ls) store held refl)))
+command_step sure h (commands.Prune store indexes) = bound (indexes_got_step 0 indexes (λ q has. has) (λ t. t)) (λ ls. bound (on_disk (λ p. taken_step _ _ _ _ p [] store)) (λ held. on_disk (λ p. pruned_step _ _ _ _ p (is_listed_in ls) store held refl)))
 command_step sure h (commands.Demo number size workers digest) = bound (pure_step (Rehearsed digest number size) (rehearsed_fair (parts h (commands.Demo number size workers digest)) digest number size)) (λ f. on_out (λ d. printed_step _ _ _ _ d (text_of_figures f)))
 command_step sure h commands.Help = on_out (λ d. printed_step _ _ _ _ d (help_text topics.All))
 command_step sure h commands.Version = on_out (λ d. printed_step _ _ _ _ d (help_text topics.Version))
@@ -340,7 +372,7 @@ none_such h = absurd (cc)
 
 -- the command began where the words were read
 pub begun : (sure : Bool) (k : Heard) (words : List (List ℕ)) (w v : World) (r : Result Unit Outcome) → Passed (WordsRead words) (CommandEnds sure k) w r v → (c : Command) × (command_of words ≡ Some c) × CommandEnds sure k c w r v
-begun sure k words w v r h = (h.gave, h.did.0, subst (λ u. CommandEnds sure k h.gave u r v) h.did.1 h.then)
+begun sure k words w v r h = (h.gave, h.did.0, subst (λ u. CommandEnds sure k h.gave u r v) h.did.2 h.then)
 
 pub if_some : {X : Type 0} (o : Option X) (P : X → Type 0) (x : X) → o ≡ Some x → P x → IfSome o P
 if_some o P x is p = subst (λ r. IfSome r P) (sym is) p
@@ -348,6 +380,12 @@ if_some o P x is p = subst (λ r. IfSome r P) (sym is) p
 pub if_any : {X : Type 0} (o : Option X) (P : X → Type 0) → ((x : X) → P x) → IfSome o P
 if_any None P f = tt
 if_any (Some x) P f = f x
+
+-- a command that is done fits
+pub done_fits : (sure : Bool) (k : Heard) (words : List (List ℕ)) (w v : World) (o : Outcome) → DesyncEnds sure k words w (answer_of o) v → o ≡ ends.Done → IfSome (command_of words) Fits
+done_fits sure k words w v o h done =
+    let ended : DesyncEnds sure k words w (Ok tt) v = subst (λ e. DesyncEnds sure k words w (answer_of e) v) done h in
+    if_some (command_of words) Fits ended.gave ended.did.0 ended.did.1
 
 as_answer : (o : Outcome) → IsRefusal o → answer_of o ≡ Err o
 as_answer ends.Done h = absurd h
@@ -396,7 +434,17 @@ numbered w v [] k all = tt
 numbered w v (q ∷ names) zero all = all 0 q (omega arith)
 numbered w v (q ∷ names) (suc k) all = numbered w v names k (λ j y lt. all (suc j) y (omega (arith, lt)))
 
-quiet : (x : Parts) (w v : World) (o : Outcome) → NoFault w v → Quiet x.listener.0 x.listener.1 → All (RepliesTaken w v) x.stores → Blames x o w v → NothingFailed o
+-- nor has a server's reply to the ask for an index not been taken
+index_quiet : (w v : World) → NoFault w v → (p : Result IndexPlace NoLocation) → FetchTaken w v p → IndexRose w.dial v.dial p → ⊥
+index_quiet w v n (Ok (places.File name)) taken rose = rose
+index_quiet w v n (Ok (places.Http host port path)) taken (inl rose) = rose_not_quiet w.dial.faults w.dial.faults v.dial.faults (omega arith) rose n.dial
+index_quiet w v n (Ok (places.Http host port path)) taken (inr bad) = over (since w.dial.ended v.dial.ended) taken bad where
+  over : (o : Option (List Traffic)) → IsSomeAnd o (λ ended. Any (IsUnfetched host port path) ended → ⊥) → IfSome o (Any (IsUnfetched host port path)) → ⊥
+  over None t b = absurd t
+  over (Some ended) t b = t b
+index_quiet w v n (Err why) taken rose = rose
+
+quiet : (x : Parts) (w v : World) (o : Outcome) → NoFault w v → Quiet x.listener.0 x.listener.1 → All (RepliesTaken w v) x.stores × All (IndexTaken w v) x.indexes → Blames x o w v → NothingFailed o
 quiet x w v o n heard taken h = go o h where
   file : (q : List ℕ) → FileRose w.disk v.disk q → ⊥
   file q rose = rose_not_quiet (count_at w.disk.file_counts q) (count_at w.disk.file_counts q) (count_at v.disk.file_counts q) (omega arith) rose (n.disk.files q)
@@ -406,11 +454,12 @@ quiet x w v o n heard taken h = go o h where
 
   go : (o : Outcome) → Blames x o w v → NothingFailed o
   go ends.ImageFault r = file x.image r
-  go (ends.StoreFault s) r = store_quiet w v n (store_at x.stores s) (numbered w v x.stores s taken) r
+  go (ends.StoreFault s) r = store_quiet w v n (store_at x.stores s) (numbered w v x.stores s taken.0) r
   go ends.TargetFault r = file x.target r
   go ends.CacheFault r = folder x.cache r
   go (ends.FileFault name) (inl r) = file name r
-  go (ends.FileFault name) (inr r) = folder name r
+  go (ends.FileFault name) (inr (inl r)) = folder name r
+  go (ends.FileFault name) (inr (inr r)) = index_quiet w v n (index_place_of name) (subst (IndexTaken w v) r.0.2 (taken.1 r.0.0 name r.0.1)) r.1
   go ends.OutFault r = rose_not_quiet w.out.faults w.out.faults v.out.faults (omega arith) r n.out
   go ends.ListenFault r = rose_not_quiet x.listener.0 x.listener.0 x.listener.1 (omega arith) r heard
   go other r = tt
@@ -426,12 +475,12 @@ quiet_listener k (commands.ChunkServer store host port writable workers digest) 
 quiet_listener k (commands.IndexServer store host port writable) h = h
 quiet_listener k other h = record { same = omega arith; below = omega arith }
 
-pub nothing_failed : (sure : Bool) (k : Heard) (words : List (List ℕ)) (w v : World) (r : Result Unit Outcome) → DesyncEnds sure k words w r v → NoFault w v → Quiet k.old.faults k.new.faults → IfSome (command_of words) (λ c. All (RepliesTaken w v) (parts k c).stores) → NothingFailed (outcome_of r)
+pub nothing_failed : (sure : Bool) (k : Heard) (words : List (List ℕ)) (w v : World) (r : Result Unit Outcome) → DesyncEnds sure k words w r v → NoFault w v → Quiet k.old.faults k.new.faults → IfSome (command_of words) (λ c. All (RepliesTaken w v) (parts k c).stores × All (IndexTaken w v) (parts k c).indexes) → NothingFailed (outcome_of r)
 nothing_failed sure k words w v (Ok u) h n heard taken = tt
 nothing_failed sure k words w v (Err o) (inl h) n heard taken = words_quiet words o h.0
 nothing_failed sure k words w v (Err o) (inr h) n heard taken =
     let b = begun sure k words w v (Err o) h in
-    quiet (parts k b.0) w v o n (quiet_listener k b.0 heard) (subst (λ c. IfSome c (λ c. All (RepliesTaken w v) (parts k c).stores)) b.1 taken) ((command_step sure k b.0).fair w v o b.2).1
+    quiet (parts k b.0) w v o n (quiet_listener k b.0 heard) (subst (λ c. IfSome c (λ c. All (RepliesTaken w v) (parts k c).stores × All (IndexTaken w v) (parts k c).indexes)) b.1 taken) ((command_step sure k b.0).fair w v o b.2).1
 
 unrefused : (r : Result Command WordsFault) (c : Command) → command_said r ≡ Some c → refusal_in r ≡ None
 unrefused (Ok d) c h = refl

@@ -1,6 +1,6 @@
 -- How long the name is that an outcome tells: no longer than the words, but for what stands behind OUT in the name of the
 -- temporary file.
-use Rattle.std.proofs.Common.{◌≡◌, ℕ, ◌≤◌, List, [], ◌∷◌, length, map, Bool, true, false, Option, Some, None, Result, Err, ap, inl, inr, arith}
+use Rattle.std.proofs.Common.{◌≡◌, ℕ, ◌≤◌, List, [], ◌∷◌, length, map, Bool, true, false, Option, Some, None, Result, Ok, Err, ap, inl, inr, arith}
 use Rattle.caibx_codec.specs.Listing.{Listing}
 use Rattle.buzhash_cut.specs.Sizes.{Sizes}
 use Rattle.chunk_store.specs.declared.id.DigestKind.{DigestKind}
@@ -8,16 +8,23 @@ use Rattle.command_outcome.specs.ErrorLines.{name_in}
 use Rattle.command_outcome.specs.declared.outcome.Outcome.{Outcome}
 use Rattle.command_outcome.specs.declared.outcome.Outcome.TheVariants as ends
 use Rattle.command_steps.specs.Cache.{CacheOpened}
-use Rattle.command_steps.specs.InputFiles.{ImageOpened, IndexRead, NotOpened, NotRead}
+use Rattle.command_indexes.proofs.Got.{got_not_spelled}
+use Rattle.command_indexes.specs.Gets.{IndexGot, IndexesGot}
+use Rattle.command_indexes.specs.Spelled.{NotServed, NotSpelledAt}
+use Rattle.command_steps.specs.InputFiles.{ImageOpened, NotOpened, NotRead}
 use Rattle.command_worlds.specs.Printing.{Printed}
-use Rattle.command_steps.specs.Seeds.{IndexesRead, NoneListed}
+use Rattle.command_steps.specs.Seeds.{CountedWith, IndexesRead, NoneListed}
 use Rattle.command_steps.specs.Sources.{FirstUnreached, NotAsking, OnStorage, Storage, SourcesOpened, Unreached, storage, storage_of}
 use Rattle.command_worlds.specs.Steps.{◌>>=◌}
 use Rattle.command_steps.specs.Stores.{NotReached, StoreTaken, folder_name}
 use Rattle.command_steps.specs.TakenStores.{SourceTaken}
 use Rattle.command_worlds.specs.Worlds.{OnDisk, OnOut, Pure, Step, World}
+use Rattle.command_words.specs.Locations.{index_place_of}
 use Rattle.command_words.specs.declared.command.Location.{Location}
 use Rattle.command_words.specs.declared.command.Location.TheVariants as locations
+use Rattle.command_words.specs.declared.location.IndexPlace.{IndexPlace}
+use Rattle.command_words.specs.declared.location.IndexPlace.TheVariants as places
+use Rattle.command_words.specs.declared.location.NoLocation.{NoLocation}
 use Rattle.dsy_base.specs.Disk.{Disk, Output}
 use Rattle.dsy_base.specs.Maps.{Map}
 use Rattle.image_commands.specs.Chop.{ImageChopped}
@@ -81,6 +88,18 @@ module _ (n : ℕ) where
   not_read q le d e (ends.FileFault name) h = short_as n name q h.0 le
   not_read q le d e ends.Memory h = omega arith
   not_read q le d e other h = absurd h
+
+  not_served : (q : List ℕ) → length q ≤ n → (host : List ℕ) (port : ℕ) (path : List ℕ) (w v : Storage) (o : Outcome) → NotServed q host port path w v o → length (name_in o) ≤ n
+  not_served q le host port path w v (ends.NoFile name) h = short_as n name q h.0 le
+  not_served q le host port path w v (ends.BadIndex name fault) h = short_as n name q h.0 le
+  not_served q le host port path w v (ends.FileFault name) h = short_as n name q h.0 le
+  not_served q le host port path w v ends.Memory h = omega arith
+  not_served q le host port path w v other h = absurd h
+
+  not_spelled : (q : List ℕ) → length q ≤ n → (p : Result IndexPlace NoLocation) (w v : Storage) (o : Outcome) → NotSpelledAt q p w v o → length (name_in o) ≤ n
+  not_spelled q le (Ok (places.File name)) w v o h = not_read q le w.disk v.disk o h
+  not_spelled q le (Ok (places.Http host port path)) w v o h = not_served q le host port path w v o h
+  not_spelled q le (Err why) w v o h = omega (arith, ap (λ r. length (name_in r)) h)
 
   not_opened : (q : List ℕ) → length q ≤ n → (d e : Disk) (o : Outcome) → NotOpened d e q o → length (name_in o) ≤ n
   not_opened q le d e (ends.NoFile name) h = short_as n name q h.0 le
@@ -245,7 +264,7 @@ module _ (n : ℕ) where
   served_tells h q held served short d e other t = absurd t.0
 
   pub served : (h : Heard) (q : List ℕ) (held : Option (Map (List ℕ))) (served short : FolderServing) → Shorts n (FolderServed h q held served short)
-  served h q held served short = record { short = served_tells h q held served short }
+  served h q held done short = record { short = served_tells h q held done short }
 
   written_tells : (q bytes : List ℕ) → length q ≤ n → Tells n (IndexWritten q bytes)
   written_tells q bytes le d e o h = not_written q le d e o h.0
@@ -260,14 +279,14 @@ module _ (n : ℕ) where
   filled_by fills.CacheFault = omega arith
   filled_by fills.Memory = omega arith
 
-  not_filled : (over : Evidence) (d e : Disk) (indexes : List (List ℕ)) → AllShort n indexes → (x y : Option (Map (List ℕ))) (o : Outcome) → NotFilled over d e indexes x y o → length (name_in o) ≤ n
-  not_filled over d e [] all x y o h = absurd h
-  not_filled over d e (q ∷ indexes) all x y o (inl h) = not_read q all.0 d e o h.0
-  not_filled over d e (q ∷ indexes) all x y o (inr (l, listed, inl (fault, is, filled))) = omega (arith, ap (λ r. length (name_in r)) is, filled_by fault)
-  not_filled over d e (q ∷ indexes) all x y o (inr (l, listed, inr (z, filled, rest))) = not_filled over d e indexes all.1 z y o rest
+  not_filled : (over : Evidence) (w v : Storage) (indexes : List (List ℕ)) → AllShort n indexes → (x y : Option (Map (List ℕ))) (o : Outcome) → NotFilled over w v indexes x y o → length (name_in o) ≤ n
+  not_filled over w v [] all x y o h = absurd h
+  not_filled over w v (q ∷ indexes) all x y o (inl h) = not_spelled q all.0 (index_place_of q) w v o h.0
+  not_filled over w v (q ∷ indexes) all x y o (inr (l, listed, inl (fault, is, filled))) = omega (arith, ap (λ r. length (name_in r)) is, filled_by fault)
+  not_filled over w v (q ∷ indexes) all x y o (inr (l, listed, inr (z, filled, rest))) = not_filled over w v indexes all.1 z y o rest
 
   filled_tells : (stores : List Location) (cache : List ℕ) (most : ℕ) (indexes : List (List ℕ)) → AllShort n indexes → Tells n (IndexesFilled stores cache most indexes)
-  filled_tells stores cache most indexes all w v o h = not_filled _ w.disk v.disk indexes all h.held h.now o h.filled
+  filled_tells stores cache most indexes all w v o h = not_filled _ w v indexes all h.held h.now o h.filled
 
   pub filled : (stores : List Location) (cache : List ℕ) (most : ℕ) (indexes : List (List ℕ)) → AllShort n indexes → Shorts n (IndexesFilled stores cache most indexes)
   filled stores cache most indexes all = record { short = filled_tells stores cache most indexes all }
@@ -299,8 +318,24 @@ module _ (n : ℕ) where
   out_made sure true stores cache out l x temporary le = on_sources (made sure stores cache (in_place out) l x)
   out_made sure false stores cache out l x temporary le = bound (on_sources (clearing (temporary_out out) _ (made sure stores cache (beside out) l x))) (λ u. on_sources (clearing (temporary_out out) _ (renamed (temporary_out out) out temporary le)))
 
-  pub index_read : (q : List ℕ) → length q ≤ n → Shorts n (IndexRead q)
-  index_read q le = record { short = λ d e o h. not_read q le d e o h.0 }
+  pub index_got : (q : List ℕ) → length q ≤ n → Shorts n (IndexGot q)
+  index_got q le = record { short = λ w v o h. not_spelled q le (index_place_of q) w v o (got_not_spelled q (index_place_of q) w o v h) }
+
+  counted_with : (m : ℕ) (l : Listing) → Shorts n (Pure (CountedWith m l))
+  counted_with m l = record { short = go } where
+    go : Tells n (Pure (CountedWith m l))
+    go w v ends.TooManyItems h = omega arith
+    go w v ends.Memory h = omega arith
+    go w v other h = absurd h.0
+
+  surely : {A : Type 0} (a : A) → Shorts n (Pure (λ r. r ≡ Ok a))
+  surely a = record { short = λ w v o h. absurd (err_not_ok a o h.0) } where
+    err_not_ok : {A : Type 0} (a : A) (o : Outcome) → Err o ≡ Ok a → ⊥
+    err_not_ok a o same = absurd (cc)
+
+  pub indexes_got : (m : ℕ) (names : List (List ℕ)) → AllShort n names → Shorts n (IndexesGot m names)
+  indexes_got m [] all = surely []
+  indexes_got m (q ∷ names) all = bound (on_sources (index_got q all.0)) (λ l. bound (counted_with m l) (λ k. bound (indexes_got k names all.1) (λ ls. surely (l ∷ ls))))
 
   pub indexes_read : (names : List (List ℕ)) → AllShort n names → Shorts n (IndexesRead names)
   indexes_read names all = record { short = λ d e o h. none_listed names all 0 d e o h.0 }

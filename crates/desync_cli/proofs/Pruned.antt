@@ -4,8 +4,11 @@ use Rattle.std.specs.List.{AllZip}
 use Rattle.std.specs.Option.{option_map}
 use Rattle.caibx_codec.specs.Listing.{Listing}
 use Rattle.chunk_store.specs.declared.id.DigestKind.{DigestKind}
-use Rattle.command_steps.specs.InputFiles.{IsListed}
-use Rattle.command_worlds.specs.Worlds.{World}
+use Rattle.command_indexes.proofs.AllGot.{all_left, all_spelled}
+use Rattle.command_indexes.specs.Spelled.{Spells}
+use Rattle.command_steps.proofs.Dialed.{dials_same}
+use Rattle.command_steps.specs.Sources.{storage_of}
+use Rattle.command_worlds.specs.Worlds.{World, world}
 use Rattle.command_steps.proofs.Taken.{at_name_twice}
 use Rattle.store_commands.specs.Prune.{IsPruned, IsPrunedTo, PruneEnds}
 use Rattle.store_commands.specs.Verify.{IsVerifiedStore, VerifyEnds}
@@ -23,13 +26,12 @@ given_back store y files = option_map (λ m. at_name m store files) (option_map 
 back_is : (store : List ℕ) (n m : Map (Map (List ℕ))) (files : Option (Map (List ℕ))) → Some m ≡ given_back store (Some n) files → m ≡ at_name n store files
 back_is store n m files back = ap (λ o. unwrap_or o m) back ∙ at_name_twice n store None files
 
-module _ (store : List ℕ) (indexes : List (List ℕ)) (ls : List Listing) where
-  pruned_over : (x : Option (Map (List ℕ))) (y z : Option (Map (Map (List ℕ)))) (held files : Option (Map (List ℕ))) → AllZip (λ q l. IfSome x (λ m. IsListed m q l)) indexes ls
-      → Taken store y held → z ≡ given_back store y files → IsPrunedTo (is_listed_in ls) held files → IfSome x (λ b. IfSome y (λ n. IfSome z (λ m. IsPruned b n m store indexes)))
-  pruned_over None y z held files listed taken back are = tt
-  pruned_over (Some b) None z held files listed taken back are = tt
-  pruned_over (Some b) (Some n) None held files listed taken back are = tt
-  pruned_over (Some b) (Some n) (Some m) held files listed taken back are = record {
+module _ (Spelled : List ℕ → Listing → Type 0) (store : List ℕ) (indexes : List (List ℕ)) (ls : List Listing) where
+  pruned_over : (y z : Option (Map (Map (List ℕ)))) (held files : Option (Map (List ℕ))) → AllZip Spelled indexes ls
+      → Taken store y held → z ≡ given_back store y files → IsPrunedTo (is_listed_in ls) held files → IfSome y (λ n. IfSome z (λ m. IsPruned Spelled n m store indexes))
+  pruned_over None z held files listed taken back are = tt
+  pruned_over (Some n) None held files listed taken back are = tt
+  pruned_over (Some n) (Some m) held files listed taken back are = record {
     listings = ls;
     listed = listed;
     held = taken.0;
@@ -38,12 +40,13 @@ module _ (store : List ℕ) (indexes : List (List ℕ)) (ls : List Listing) wher
   }
 
 pub pruned_to : (store : List ℕ) (indexes : List (List ℕ)) (w v : World) → PruneEnds store indexes w (Ok tt) v
-    → IfSome w.disk.files (λ b. IfSome w.disk.folders (λ f. IfSome v.disk.folders (λ g. IsPruned b f g store indexes)))
+    → IfSome w.disk.folders (λ f. IfSome v.disk.folders (λ g. IsPruned (Spells (storage_of w) (storage_of v)) f g store indexes))
 pruned_to store indexes w v h =
     let taken = h.then in
     let between = taken.then.0.0 in
-    let folders = h.did.0.1.folders in
-    pruned_over store indexes h.gave w.disk.files w.disk.folders v.disk.folders taken.gave between.files h.did.0.0.0
+    let folders = (all_left 0 indexes w h.gave (world h.disk h.dial h.out) h.did).reads.folders in
+    let spelled = all_spelled 0 indexes w h.gave (world h.disk h.dial h.out) (storage_of v) h.did (dials_same h.dial v.dial (taken.then.1 ∙ taken.did.1)) in
+    pruned_over (Spells (storage_of w) (storage_of v)) store indexes h.gave w.disk.folders v.disk.folders taken.gave between.files spelled
     (subst (λ (y : Option (Map (Map (List ℕ)))). Taken store y taken.gave) folders taken.did.0.0)
     (between.back ∙ ap (option_map (λ (m : Map (Map (List ℕ))). at_name m store between.files)) (taken.did.0.1.0 ∙ ap (option_map (λ (m : Map (Map (List ℕ))). at_name m store None)) folders))
     between.change

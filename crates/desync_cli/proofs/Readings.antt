@@ -1,5 +1,5 @@
 -- How a command reads where nothing fails: each step that only reads finds what is there, or ends the command so.
-use Rattle.std.proofs.Common.{ap, arith, ◌⊎◌, true, false, zero, suc, ◌≡◌, ◌∙◌, ℕ, ◌+◌, ◌<◌, ◌≤◌, List, [], ◌∷◌, map, Option, Some, None, IfSome, IsSome, IsTrue, refl, subst, sym, inl, inr, Result, Ok, Err}
+use Rattle.std.proofs.Common.{ap, arith, ◌⊎◌, ◌&&◌, Bool, true, false, zero, suc, ◌≡◌, ◌∙◌, ℕ, ◌+◌, ◌<◌, ◌≤◌, List, [], ◌∷◌, map, Option, Some, None, IfSome, IsSome, IsTrue, refl, subst, sym, inl, inr, Result, Ok, Err}
 use Rattle.std.specs.List.{All}
 use Rattle.std.specs.Map.{count_at}
 use Rattle.std.specs.Option.{option_map}
@@ -12,14 +12,18 @@ use Rattle.command_outcome.specs.declared.outcome.Outcome.TheVariants as ends
 use Rattle.command_steps.proofs.Numbers.{rose_not_quiet}
 use Rattle.command_steps.proofs.Cached.{cache_reads}
 use Rattle.command_steps.specs.Cache.{CacheOpened}
-use Rattle.command_steps.specs.InputFiles.{ImageOpened, IndexRead, IsBad, IsListed, NotOpened, NotRead}
-use Rattle.command_steps.specs.Seeds.{AllListed, IndexesRead, NoneListed, items_with}
-use Rattle.command_steps.specs.Sources.{FirstUnreached, IsThere, SourcesOpened, Storage, StoreRose, Unreached, location_files}
+use Rattle.command_indexes.proofs.Got.{got_file}
+use Rattle.command_indexes.specs.Gets.{IndexGot, IndexesGot}
+use Rattle.command_indexes.specs.Places.{are_files, is_file}
+use Rattle.command_steps.proofs.SeedsRead.{all_later}
+use Rattle.command_steps.specs.InputFiles.{ImageOpened, IsBad, IsListed, Listed, NotOpened, NotRead}
+use Rattle.command_steps.specs.Seeds.{AllListed, CountedWith, IndexesRead, NoneListed, items_with}
+use Rattle.command_steps.specs.Sources.{FirstUnreached, IsThere, OnStorage, SourcesOpened, Storage, StoreRose, Unreached, location_files, storage_of}
 use Rattle.command_steps.specs.Stores.{NotReached, StoreTaken, are_folders}
 use Rattle.command_words.specs.declared.command.Location.{Location}
 use Rattle.command_words.specs.declared.command.Location.TheVariants as locations
 use Rattle.command_worlds.specs.Steps.{◌>>=◌, outcome_of}
-use Rattle.command_worlds.specs.Worlds.{DiskQuiet, FileRose, FolderRose, OnDisk, Reads, Step, World, world}
+use Rattle.command_worlds.specs.Worlds.{DiskQuiet, FileRose, FolderRose, OnDisk, Pure, Reads, Step, World, world}
 use Rattle.desync_cli.specs.Contents.{Contents, Ending, HasContents, Unchanged, folder_at, folders_at, image_at, index_at, indexes_at}
 use Rattle.dsy_base.specs.Counts.{Quiet}
 use Rattle.dsy_base.specs.Disk.{Disk}
@@ -85,6 +89,10 @@ pub bound_so : {A : Type 0} (step : Step World A) (next : A → Step World Unit)
 bound_so step next P u v refused passed (Ok b) h = passed h.gave (world h.disk h.dial h.out) (Ok b) h.did h.then
 bound_so step next P u v refused passed (Err o) (inl h) = refused o h
 bound_so step next P u v refused passed (Err o) (inr h) = passed h.gave (world h.disk h.dial h.out) (Err o) h.did h.then
+
+pub both_files : (a b : Bool) → IsTrue (a && b) → IsTrue a × IsTrue b
+both_files true b t = (refl, t)
+both_files false b t = absurd (cc)
 
 -- ---- what is there, and what isn't
 
@@ -213,14 +221,18 @@ module _ (x : Contents) (w v : World) (quiet : IsQuiet w v) where
   unchanged u ending o at reads out (inl none) = inl none
   unchanged u ending o at reads out (inr ends) = inr (x, (at_read x w u v at reads out).has, ends)
 
-  pub index_so : (q : List ℕ) (next : Listing → Ending) (then : Listing → Step World Unit)
+  -- the operand is the name of a file
+  pub index_so : (q : List ℕ) → IsTrue (is_file q) → (next : Listing → Ending) (then : Listing → Step World Unit)
       → ((l : Listing) (e : World) → IsAt x w e → IsListed x.files q l → (r : Result Unit Outcome) → then l e r v → EndsSo x v (next l) (outcome_of r))
-      → (u : World) → IsAt x w u → (r : Result Unit Outcome) → (OnDisk (IndexRead q) >>= then) u r v → EndsSo x v (index_at q next) (outcome_of r)
-  index_so q next then on u at = bound_so (OnDisk (IndexRead q)) then (EndsSo x v (index_at q next)) u v
-      (λ o h. unchanged u (index_at q next) o at h.0.1 h.2 (elim (index_unread x u.disk v.disk at.has.files (file_unrisen x w u v at quiet) q o h.0.0) [ inl none ↦ inl none | inr ends ↦ inr (ends next) ]))
+      → (u : World) → IsAt x w u → (r : Result Unit Outcome) → (OnStorage (IndexGot q) >>= then) u r v → EndsSo x v (index_at q next) (outcome_of r)
+  index_so q file next then on u at = bound_so (OnStorage (IndexGot q)) then (EndsSo x v (index_at q next)) u v
+      (λ o h.
+      let k = (got_file q (storage_of u) (Err o) (storage_of v) file h.0).0 in
+      unchanged u (index_at q next) o at k.1 h.1 (elim (index_unread x u.disk v.disk at.has.files (file_unrisen x w u v at quiet) q o k.0) [ inl none ↦ inl none | inr ends ↦ inr (ends next) ]))
       (λ l e r h rest.
-      let is : IsListed x.files q l = subst (λ f. IfSome f (λ m. IsListed m q l)) at.has.files h.0.0 in
-      ends_as x v (next l) (index_at q next) (outcome_of r) (λ y so. index_there x q l next (outcome_of r) y is so) (on l e (at_read x w u e at h.0.1 h.2) is r rest))
+      let k = (got_file q (storage_of u) (Ok l) (storage_of e) file h.0).0 in
+      let is : IsListed x.files q l = subst (λ f. IfSome f (λ m. IsListed m q l)) at.has.files k.0 in
+      ends_as x v (next l) (index_at q next) (outcome_of r) (λ y so. index_there x q l next (outcome_of r) y is so) (on l e (at_read x w u e at k.1 h.1) is r rest))
 
   pub image_so : (q : List ℕ) (next : List ℕ → Ending) (then : Option (List ℕ) → Step World Unit)
       → ((t : List ℕ) (e : World) → IsAt x w e → (r : Result Unit Outcome) → then (Some t) e r v → EndsSo x v (next t) (outcome_of r))
@@ -238,6 +250,90 @@ module _ (x : Contents) (w v : World) (quiet : IsQuiet w v) where
   indexes_so names next then on u at = bound_so (OnDisk (IndexesRead names)) then (EndsSo x v (indexes_at 0 names next)) u v
       (λ o h. unchanged u (indexes_at 0 names next) o at h.0.1 h.2 (elim (indexes_unread x u.disk v.disk at.has.files (file_unrisen x w u v at quiet) 0 names o h.0.0) [ inl none ↦ inl none | inr ends ↦ inr (ends next) ]))
       (λ ls e r h rest. ends_as x v (next ls) (indexes_at 0 names next) (outcome_of r) (λ y so. indexes_there x u.disk at.has.files 0 names ls h.0.0.0 h.0.0.1 next (outcome_of r) y so) (on ls e (at_read x w u e at h.0.1 h.2) r rest))
+
+  -- ---- indexes that are had one by one, from files
+
+  one_had : (q : List ℕ) → IsTrue (is_file q) → (u e : World) (l : Listing) → IsAt x w u → OnStorage (IndexGot q) u (Ok l) e → Listed u.disk q l × IsAt x w e × Reads u.disk e.disk
+  one_had q file u e l at h =
+      let k = (got_file q (storage_of u) (Ok l) (storage_of e) file h.0).0 in
+      (k.0, at_read x w u e at k.1 h.1, k.1)
+
+  indexes_had : (n : ℕ) (names : List (List ℕ)) → IsTrue (are_files names) → n ≤ seed_item_limit → (u : World) (ls : List Listing) (e : World) → IsAt x w u → IndexesGot n names u (Ok ls) e
+      → (AllListed u.disk names ls × (items_with n ls ≤ seed_item_limit)) × IsAt x w e
+  indexes_had n [] files few u ls e at h =
+      let none : ls ≡ [] = let same = h.0 in cc in
+      (subst (λ (k : List Listing). AllListed u.disk [] k × (items_with n k ≤ seed_item_limit)) (sym none) (tt, few), subst (IsAt x w) (sym h.1) at)
+  indexes_had n (q ∷ names) files few u ls e at h =
+      let both = both_files (is_file q) (are_files names) files in
+      let one = one_had q both.0 u (world h.disk h.dial h.out) h.gave at h.did in
+      let m = h.then.gave in
+      let counted = h.then.did.0 in
+      let mid = world h.then.disk h.then.dial h.then.out in
+      let here : IsAt x w mid = subst (IsAt x w) (sym h.then.did.1) one.1 in
+      let reads : Reads u.disk mid.disk = subst (λ (y : World). Reads u.disk y.disk) (sym h.then.did.1) one.2 in
+      let more = indexes_had m names both.1 counted.1 mid h.then.then.gave (world h.then.then.disk h.then.then.dial h.then.then.out) here h.then.then.did in
+      let all : AllListed u.disk (q ∷ names) (h.gave ∷ h.then.then.gave) = (one.0, all_later u.disk mid.disk reads names h.then.then.gave more.0.0) in
+      let sum : items_with n (h.gave ∷ h.then.then.gave) ≤ seed_item_limit = subst (λ (k : ℕ). items_with k h.then.then.gave ≤ seed_item_limit) counted.0 more.0.1 in
+      let are : ls ≡ h.gave ∷ h.then.then.gave = let same = h.then.then.then.0 in cc in
+      (subst (λ (k : List Listing). AllListed u.disk (q ∷ names) k × (items_with n k ≤ seed_item_limit)) (sym are) (all, sum), subst (IsAt x w) (sym h.then.then.then.1) more.1)
+
+  not_counted : (n : ℕ) (q : List ℕ) (names : List (List ℕ)) (l : Listing) (o : Outcome) → IsListed x.files q l → CountedWith n l (Err o) → (o ≡ ends.Memory) ⊎ ((next : List Listing → Ending) → indexes_at n (q ∷ names) next x o x)
+  not_counted n q names l ends.TooManyItems is counted = inr (λ next. index_there x q l (then_more n names next) ends.TooManyItems x is (inl (counted, (refl, refl))))
+  not_counted n q names l ends.Memory is counted = inl refl
+  not_counted n q names l other is counted = absurd counted
+
+  not_ok : {A : Type 0} (a : A) (o : Outcome) → Err o ≡ Ok a → ⊥
+  not_ok a o same = absurd (cc)
+
+  indexes_not_had : (n : ℕ) (names : List (List ℕ)) → IsTrue (are_files names) → (u : World) (o : Outcome) → IsAt x w u → IndexesGot n names u (Err o) v
+      → ((o ≡ ends.Memory) ⊎ ((next : List Listing → Ending) → indexes_at n names next x o x)) × HasContents v x
+  indexes_not_had n [] files u o at h = absurd (not_ok [] o h.0)
+  indexes_not_had n (q ∷ names) files u o at (inl h) =
+      let both = both_files (is_file q) (are_files names) files in
+      let k = (got_file q (storage_of u) (Err o) (storage_of v) both.0 h.0).0 in (
+        elim (index_unread x u.disk v.disk at.has.files (file_unrisen x w u v at quiet) q o k.0) [ inl none ↦ inl none | inr ends ↦ inr (λ next. ends (then_more n names next)) ],
+        (at_read x w u v at k.1 h.1).has,
+      )
+  indexes_not_had n (q ∷ names) files u o at (inr h) = go (λ m mid here z. indexes_not_had m names both.1 mid o here z) h.then where
+    both : IsTrue (is_file q) × IsTrue (are_files names)
+    both = both_files (is_file q) (are_files names) files
+
+    one : Listed u.disk q h.gave × IsAt x w (world h.disk h.dial h.out) × Reads u.disk h.disk
+    one = one_had q both.0 u (world h.disk h.dial h.out) h.gave at h.did
+
+    is : IsListed x.files q h.gave
+    is = subst (λ f. IfSome f (λ m. IsListed m q h.gave)) at.has.files one.0
+
+    go : ((m : ℕ) (mid : World) → IsAt x w mid → IndexesGot m names mid (Err o) v → ((o ≡ ends.Memory) ⊎ ((next : List Listing → Ending) → indexes_at m names next x o x)) × HasContents v x)
+        → (Pure (CountedWith n h.gave) >>= (λ m. IndexesGot m names >>= (λ ls. Pure (λ r. r ≡ Ok (h.gave ∷ ls))))) (world h.disk h.dial h.out) (Err o) v
+        → ((o ≡ ends.Memory) ⊎ ((next : List Listing → Ending) → indexes_at n (q ∷ names) next x o x)) × HasContents v x
+    go more (inl k) = (not_counted n q names h.gave o is k.0, (subst (IsAt x w) (sym k.1) one.1).has)
+    go more (inr k) = later k.then where
+      mid : World
+      mid = world k.disk k.dial k.out
+
+      later : (IndexesGot k.gave names >>= (λ ls. Pure (λ r. r ≡ Ok (h.gave ∷ ls)))) mid (Err o) v → ((o ≡ ends.Memory) ⊎ ((next : List Listing → Ending) → indexes_at n (q ∷ names) next x o x)) × HasContents v x
+      later (inl z) =
+          let rest = more k.gave mid (subst (IsAt x w) (sym k.did.1) one.1) z in (
+            elim rest.0 [
+              | inl none ↦ inl none
+              | inr ends ↦ inr (λ next. index_there x q h.gave (then_more n names next) o x is (inr (
+                subst (λ (i : ℕ). i ≤ seed_item_limit) k.did.0.0 k.did.0.1,
+                subst (λ (i : ℕ). indexes_at i names (λ ls. next (h.gave ∷ ls)) x o x) k.did.0.0 (ends (λ ls. next (h.gave ∷ ls))),
+              )))
+            ],
+            rest.1,
+          )
+      later (inr z) = absurd (not_ok (h.gave ∷ z.gave) o z.then.0)
+
+  pub indexes_got_so : (names : List (List ℕ)) → IsTrue (are_files names) → (next : List Listing → Ending) (then : List Listing → Step World Unit)
+      → ((ls : List Listing) (e : World) → IsAt x w e → (r : Result Unit Outcome) → then ls e r v → EndsSo x v (next ls) (outcome_of r))
+      → (u : World) → IsAt x w u → (r : Result Unit Outcome) → (IndexesGot 0 names >>= then) u r v → EndsSo x v (indexes_at 0 names next) (outcome_of r)
+  indexes_got_so names files next then on u at = bound_so (IndexesGot 0 names) then (EndsSo x v (indexes_at 0 names next)) u v
+      (λ o h. let none = indexes_not_had 0 names files u o at h in elim none.0 [ inl memory ↦ inl memory | inr ends ↦ inr (x, none.1, ends next) ])
+      (λ ls e r h rest.
+      let all = indexes_had 0 names files (omega arith) u ls e at h in
+      ends_as x v (next ls) (indexes_at 0 names next) (outcome_of r) (λ y so. indexes_there x u.disk at.has.files 0 names ls all.0.0 all.0.1 next (outcome_of r) y so) (on ls e all.1 r rest))
 
   pub stores_so : (stores : List Location) → IsTrue (are_folders stores) → (next : List (Map (List ℕ)) → Ending) (then : Unit {0} → Step World Unit)
       → ((fs : List (Map (List ℕ))) (e : World) → IsAt x w e → map (location_files x.folders) stores ≡ map Some fs → (r : Result Unit Outcome) → then tt e r v → EndsSo x v (next fs) (outcome_of r))

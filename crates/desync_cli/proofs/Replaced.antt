@@ -4,6 +4,7 @@ use Rattle.std.specs.Option.{option_map}
 use Rattle.caibx_codec.specs.Listing.{Listing}
 use Rattle.command_outcome.specs.declared.outcome.Outcome.{Outcome}
 use Rattle.command_outcome.specs.declared.outcome.Outcome.TheVariants as ends
+use Rattle.command_words.specs.Locations.{index_place_of}
 use Rattle.command_words.specs.declared.command.Command.{Command}
 use Rattle.command_words.specs.declared.command.Command.TheVariants as commands
 use Rattle.command_words.specs.declared.command.Location.{Location}
@@ -11,7 +12,8 @@ use Rattle.command_steps.proofs.Cached.{cache_reads}
 use Rattle.command_steps.specs.Cache.{CacheOpened}
 use Rattle.command_steps.specs.Seeds.{IndexesRead, image_name}
 use Rattle.command_worlds.specs.Steps.{◌>>=◌, outcome_of}
-use Rattle.command_steps.specs.Sources.{Storage, SourcesOpened, storage}
+use Rattle.command_indexes.proofs.Got.{got_reads}
+use Rattle.command_steps.specs.Sources.{Storage, SourcesOpened, storage, storage_of}
 use Rattle.command_worlds.specs.Worlds.{OnDisk, Reads, World, world}
 use Rattle.desync_cli.proofs.Fair.{begun, if_any, if_some}
 use Rattle.desync_cli.specs.Commands.{DesyncEnds, CommandEnds, LeavesBehind, command_of}
@@ -114,13 +116,16 @@ left_same false out w v same = left_over out w v (only_same (temporary_out out) 
 -- what a refusal of the command leaves
 pub left_out : (sure : NeverFail) (stores : List Location) (cache : Option (List ℕ)) (seeds : List (List ℕ)) (place : Bool) (index out : List ℕ) (w v : World) (o : Outcome) → is_some w.disk.files ≡ is_some w.disk.folders → ExtractEnds sure stores cache seeds place index out w (Err o) v → LeavesOut place out w v
 left_out sure stores cache seeds true index out w v o told h = tt
-left_out sure stores cache seeds false index out w v o told (inl h) = left_same false out w v h.0.1.files
+left_out sure stores cache seeds false index out w v o told (inl h) = left_same false out w v (got_reads index (index_place_of index) (storage_of w) (Err o) (storage_of v) h.0).files
 left_out sure stores cache seeds false index out w v o told (inr h) = go h.then where
   tmp : List ℕ
   tmp = temporary_out out
 
+  got : Reads w.disk h.disk
+  got = got_reads index (index_place_of index) (storage_of w) (Ok h.gave) (storage h.disk h.dial) h.did.0
+
   first : h.disk.files ≡ w.disk.files
-  first = h.did.0.1.files
+  first = got.files
 
   go : (OnDisk (IndexesRead seeds) >>= (λ ls. OnDisk (SourcesOpened stores) >>= (λ u. OnDisk (CacheOpened stores cache) >>= (λ u. OutMade sure false stores cache out h.gave (record { images = map image_name seeds; listings = ls }))))) (world h.disk h.dial h.out) (Err o) v → LeavesOut false out w v
   go (inl k) = left_same false out w v (k.0.1.files ∙ first)
@@ -147,7 +152,7 @@ left_out sure stores cache seeds false index out w v o told (inr h) = go h.then 
         files = reached.files ∙ open_files
 
         folders : m.disk.folders ≡ w.disk.folders
-        folders = reached.folders ∙ g.did.0.1.folders ∙ k.did.0.1.folders ∙ h.did.0.1.folders
+        folders = reached.folders ∙ g.did.0.1.folders ∙ k.did.0.1.folders ∙ got.folders
 
         tells : is_some m.disk.files ≡ is_some m.disk.folders
         tells = ap is_some files ∙ told ∙ sym (ap is_some folders)

@@ -1,6 +1,6 @@
 -- An `extract` that needs no server: the chunk of each entry of its index is at hand.
 use Rattle.std.specs.Prelude.{◌≡◌, ◌⊎◌, ◌++◌, ℕ, ◌<◌, ◌≤◌, Bool, true, false, List, map, Option, IfSome, IsSome}
-use Rattle.std.specs.Prelude.{IsSomeAnd}
+use Rattle.std.specs.Prelude.{IsSomeAnd, IsTrue}
 use Rattle.std.specs.List.{All, AllZip, Any}
 use Rattle.assembler.specs.Assemblies.{RightAlike}
 use Rattle.caibx_codec.specs.Listing.{Listing, count_of, id_of, kind_of, size_of}
@@ -8,6 +8,7 @@ use Rattle.chunk_store.specs.Folders.{chunks}
 use Rattle.chunk_store.specs.Giving.{GivesChunk}
 use Rattle.command_outcome.specs.declared.outcome.Outcome.{Outcome}
 use Rattle.command_outcome.specs.declared.outcome.Outcome.TheVariants as ends
+use Rattle.command_indexes.specs.Places.{is_file}
 use Rattle.command_steps.specs.InputFiles.{IsListed}
 use Rattle.command_steps.specs.Seeds.{image_name}
 use Rattle.command_steps.specs.Sources.{IsThere, location_files}
@@ -39,10 +40,11 @@ abbrev pub ListsOneSize : Listing → Type 0
 ListsOneSize l =
     (i j : ℕ) → i < count_of l → j < count_of l → id_of l i ≡ id_of l j → size_of l i ≡ size_of l j
 
--- INDEX and the indexes of the seeds are index files, the folders are there, and each entry of INDEX is at hand. Where
--- there is a cache, INDEX lists each id with one size
+-- INDEX, which is no URL, and the indexes of the seeds are index files, the folders are there, and each entry of INDEX
+-- is at hand. Where there is a cache, INDEX lists each id with one size
 pub record NeedsNoServer (b : Map (List ℕ)) (n : Map (Map (List ℕ))) (stores : List Location) (cache : Option (List ℕ))
     (seeds : List (List ℕ)) (out : Into) (index : List ℕ) : Type 0 where
+  pub file : IsTrue (is_file index)
   pub listing : Listing
   pub listed : IsListed b index listing
   pub listings : List Listing

@@ -1,5 +1,5 @@
 -- What the words are to do, and what each command does.
-use Rattle.std.specs.Prelude.{◌≡◌, ◌≢◌, ℕ, Bool, true, false, not, is_some, if◌then◌else◌}
+use Rattle.std.specs.Prelude.{◌≡◌, ◌≢◌, ◌&&◌, ℕ, Bool, true, false, not, is_some, if◌then◌else◌}
 use Rattle.std.specs.Prelude.{List, [], ◌∷◌, Option, Some, None, IfSome, Result, Ok, Err}
 use Rattle.caibx_codec.specs.Listing.{Listing}
 use Rattle.command_help.specs.Help.{help_text}
@@ -7,6 +7,7 @@ use Rattle.command_help.specs.declared.help.Topic.TheVariants as topics
 use Rattle.command_line.specs.CommandLine.{command_line}
 use Rattle.command_outcome.specs.declared.outcome.Outcome.{Outcome}
 use Rattle.command_outcome.specs.declared.outcome.Outcome.TheVariants as ends
+use Rattle.command_words.specs.Limits.{Fits}
 use Rattle.command_words.specs.declared.command.Command.{Command}
 use Rattle.command_words.specs.declared.command.Command.TheVariants as commands
 use Rattle.command_words.specs.declared.command.Location.TheVariants as locations
@@ -27,6 +28,8 @@ use Rattle.server_commands.specs.ChunkServing.{ChunkServerEnds}
 use Rattle.server_commands.specs.IndexServing.{IndexServerEnds}
 use Rattle.server_commands.specs.Serving.{Heard}
 use Rattle.store_commands.specs.Verify.{IsVerifiedStore, VerifyEnds}
+use Rattle.command_indexes.specs.Places.{are_files, is_file}
+use Rattle.command_indexes.specs.Spelled.{Spells}
 use Rattle.command_steps.specs.Blames.{Parts, Spares, unheard}
 use Rattle.command_worlds.specs.Printing.{Printed}
 use Rattle.command_steps.specs.Sources.{storage_of}
@@ -67,19 +70,23 @@ CommandEnds sure h (commands.IndexServer store host port writable) = IndexServer
 abbrev pub spares : Command → Spares
 spares (commands.Make store sizes workers digest index image) = record
     { files = false; folders = not (is_folder store); dial = is_folder store; out = true }
-spares (commands.VerifyIndex workers index image) = record { files = true; folders = true; dial = true; out = true }
+spares (commands.VerifyIndex workers index image) = record
+    { files = true; folders = true; dial = is_file index; out = true }
 spares (commands.Chop store workers index image) = record
-    { files = true; folders = not (is_folder store); dial = is_folder store; out = true }
+    { files = true; folders = not (is_folder store); dial = is_folder store && is_file index; out = true }
 spares (commands.Cache stores cache workers indexes) = record
-    { files = true; folders = false; dial = are_folders stores; out = true }
+    { files = true; folders = false; dial = are_folders stores && are_files indexes; out = true }
 spares (commands.Extract stores seeds cache in_place workers index target) = record
-    { files = false; folders = not (is_some cache); dial = are_folders stores; out = true }
+    { files = false; folders = not (is_some cache); dial = are_folders stores && is_file index; out = true }
 spares (commands.Cat stores offset length index) = record
-    { files = true; folders = true; dial = are_folders stores; out = false }
-spares (commands.Info stores index) = record { files = true; folders = true; dial = are_folders stores; out = false }
+    { files = true; folders = true; dial = are_folders stores && is_file index; out = false }
+spares (commands.ListChunks index) = record { files = true; folders = true; dial = is_file index; out = false }
+spares (commands.Info stores index) = record
+    { files = true; folders = true; dial = are_folders stores && is_file index; out = false }
 spares (commands.Verify store repair workers digest) = record
     { files = true; folders = false; dial = true; out = false }
-spares (commands.Prune store indexes) = record { files = true; folders = false; dial = true; out = true }
+spares (commands.Prune store indexes) = record
+    { files = true; folders = false; dial = are_files indexes; out = true }
 spares (commands.ChunkServer store host port writable workers digest) = record
     { files = true; folders = false; dial = true; out = true }
 spares (commands.IndexServer store host port writable) = record
@@ -89,53 +96,58 @@ spares other = record { files = true; folders = true; dial = true; out = false }
 -- whose files, folders and servers its faults are of, where the outcome doesn't name them
 abbrev pub parts : Heard → Command → Parts
 parts h (commands.Make store sizes workers digest index image) = record
-    { image = image; stores = store ∷ []; target = []; cache = []; listener = unheard }
+    { image = image; indexes = []; stores = store ∷ []; target = []; cache = []; listener = unheard }
 parts h (commands.VerifyIndex workers index image) = record
-    { image = image; stores = []; target = []; cache = []; listener = unheard }
+    { image = image; indexes = index ∷ []; stores = []; target = []; cache = []; listener = unheard }
 parts h (commands.Chop store workers index image) = record
-    { image = image; stores = store ∷ []; target = []; cache = []; listener = unheard }
+    { image = image; indexes = index ∷ []; stores = store ∷ []; target = []; cache = []; listener = unheard }
 parts h (commands.Cache stores cache workers indexes) = record
-    { image = []; stores = stores; target = []; cache = cache; listener = unheard }
+    { image = []; indexes = indexes; stores = stores; target = []; cache = cache; listener = unheard }
+parts h (commands.ListChunks index) = record
+    { image = []; indexes = index ∷ []; stores = []; target = []; cache = []; listener = unheard }
 parts h (commands.Extract stores seeds cache in_place workers index target) = record {
   image = [];
+  indexes = index ∷ [];
   stores = stores;
   target = if in_place then target else temporary_out target;
   cache = [];
   listener = unheard;
 }
 parts h (commands.Cat stores offset length index) = record
-    { image = []; stores = stores; target = []; cache = []; listener = unheard }
+    { image = []; indexes = index ∷ []; stores = stores; target = []; cache = []; listener = unheard }
 parts h (commands.Info stores index) = record
-    { image = []; stores = stores; target = []; cache = []; listener = unheard }
+    { image = []; indexes = index ∷ []; stores = stores; target = []; cache = []; listener = unheard }
 parts h (commands.Verify store repair workers digest) = record
-    { image = []; stores = locations.Folder store ∷ []; target = []; cache = []; listener = unheard }
+    { image = []; indexes = []; stores = locations.Folder store ∷ []; target = []; cache = []; listener = unheard }
 parts h (commands.Prune store indexes) = record
-    { image = []; stores = locations.Folder store ∷ []; target = []; cache = []; listener = unheard }
+    { image = []; indexes = indexes; stores = locations.Folder store ∷ []; target = []; cache = []; listener = unheard }
 parts h (commands.ChunkServer store host port writable workers digest) = record
-    { image = []; stores = []; target = []; cache = []; listener = (h.old.faults, h.new.faults) }
+    { image = []; indexes = []; stores = []; target = []; cache = []; listener = (h.old.faults, h.new.faults) }
 parts h (commands.IndexServer store host port writable) = record
-    { image = []; stores = []; target = []; cache = []; listener = (h.old.faults, h.new.faults) }
-parts h other = record { image = []; stores = []; target = []; cache = []; listener = unheard }
+    { image = []; indexes = []; stores = []; target = []; cache = []; listener = (h.old.faults, h.new.faults) }
+parts h other = record { image = []; indexes = []; stores = []; target = []; cache = []; listener = unheard }
 
--- what Done says of it, beside how it ends
+-- what Done says of it, beside how it ends. An INDEX that is a URL spells what the body of an accepted reply 200 spells,
+-- if the dialer tells its connections
 abbrev pub Achieves : Bool → Heard → Command → World → World → Type 0
 Achieves sure h (commands.Make store sizes workers digest index image) w v =
     IfSome w.disk.files (λ b. IfSome v.disk.files (λ a. (l : Listing)
     × IsMade b a digest sizes index image l × StoreHas (storage_of w) (storage_of v) store l))
-Achieves sure h (commands.VerifyIndex workers index image) w v = IfSome w.disk.files (λ m. IsVerified m index image)
+Achieves sure h (commands.VerifyIndex workers index image) w v =
+    IfSome w.disk.files (λ m. IsVerified (Spells (storage_of w) (storage_of v)) m index image)
 Achieves sure h (commands.Chop store workers index image) w v = IfSome w.disk.files (λ b. (l : Listing)
-    × IsChopped b index image l × StoreHas (storage_of w) (storage_of v) store l)
+    × IsChopped (Spells (storage_of w) (storage_of v)) b index image l × StoreHas (storage_of w) (storage_of v) store l)
 Achieves sure h (commands.Cache stores cache workers indexes) w v =
-    IfSome w.disk.files (λ b. IfSome w.disk.folders (λ f. IfSome v.disk.folders (λ g.
-    IsCached b f g cache indexes)))
+    IfSome w.disk.folders (λ f. IfSome v.disk.folders (λ g.
+    IsCached (Spells (storage_of w) (storage_of v)) f g cache indexes))
 Achieves sure h (commands.Extract stores seeds cache in_place workers index target) w v =
-    IfSome w.disk.files (λ b. IfSome v.disk.files (λ a. IsExtracted b a index target))
+    IfSome v.disk.files (λ a. IsExtracted (Spells (storage_of w) (storage_of v)) a index target)
 Achieves sure h (commands.Verify store repair workers digest) w v =
     IfSome w.disk.folders (λ f. IfSome v.disk.folders (λ g.
     IsVerifiedStore digest f g w.out.taken v.out.taken store repair))
 Achieves sure h (commands.Prune store indexes) w v =
-    IfSome w.disk.files (λ b. IfSome w.disk.folders (λ f. IfSome v.disk.folders (λ g.
-    IsPruned b f g store indexes)))
+    IfSome w.disk.folders (λ f. IfSome v.disk.folders (λ g.
+    IsPruned (Spells (storage_of w) (storage_of v)) f g store indexes))
 Achieves sure h other w v = CommandEnds sure h other w (Ok tt) v
 
 -- a refusal leaves all files as they were, but for the temporary one
@@ -179,7 +191,7 @@ NoCommand words ends.Memory = Unit {0}
 NoCommand words other = ⊥
 
 abbrev pub WordsRead : List (List ℕ) → Step World Command
-WordsRead words w (Ok c) v = (command_of words ≡ Some c) × (v ≡ w)
+WordsRead words w (Ok c) v = (command_of words ≡ Some c) × Fits c × (v ≡ w)
 WordsRead words w (Err o) v = NoCommand words o × (v ≡ w)
 
 -- the words are read, and then the command does its steps

@@ -19,6 +19,7 @@ use Rattle.command_help.specs.Help.{help_text}
 use Rattle.command_help.specs.declared.help.Topic.TheVariants as topics
 use Rattle.command_outcome.specs.declared.outcome.Outcome.{Outcome}
 use Rattle.command_outcome.specs.declared.outcome.Outcome.TheVariants as ends
+use Rattle.command_indexes.specs.Places.{are_files}
 use Rattle.command_steps.specs.Blames.{Parts}
 use Rattle.command_steps.specs.InputFiles.{IsListed}
 use Rattle.command_steps.specs.Seeds.{image_name}
@@ -66,13 +67,14 @@ use Rattle.verify_tool.specs.Texts.{text_of_chunks, text_of_info}
 use Rattle.store_check.specs.Verifying.{AreDamaged, damaged_left, left_of, text_of_damaged}
 
 -- nothing fails over a command with these parts: files, folders and the output tell, and hold x; no call on them or on
--- the listener has failed; and all stores are folders
+-- the listener has failed; and all stores are folders, and all indexes files
 pub record IsFaultless (p : Parts) (w v : World) (x : Contents) : Type 0 where
   pub tells : HasContents w x
   pub disk : DiskQuiet w.disk v.disk
   pub out : Quiet w.out.faults v.out.faults
   pub listener : Quiet p.listener.0 p.listener.1
   pub folders : IsTrue (are_folders p.stores)
+  pub indexes : IsTrue (are_files p.indexes)
 
 -- ---- images
 
@@ -168,7 +170,7 @@ Caches stores q indexes f x o y =
     ((kind : DigestKind) → GiveOneSize (IsListedAmong x.files indexes kind) kind (chunks f ∷ stores))
     → GiveOneKind (IsListedAmong x.files indexes) (chunks f ∷ stores)
     → FillsInOrder (chunks f) stores indexes x o x
-    × (o ≡ ends.Done → IsCached x.files x.folders y.folders q indexes)
+    × (o ≡ ends.Done → IsCached (IsListed x.files) x.folders y.folders q indexes)
     × ((g : Map (List ℕ)) × (y ≡ with_folder x q g) × GainsListed (IsListedAmong x.files indexes) stores f g)
 
 -- ---- OUT

@@ -7,7 +7,7 @@ ghost use Rattle.command_steps.specs.Blames.{Blames, Keeps};
 ghost use Rattle.command_words.specs.Limits.{Fits};
 ghost use Rattle.command_words.specs.declared.command.Command.{Command};
 ghost use Rattle.desync_cli.specs.AtHand.{EndsAtHand};
-ghost use Rattle.desync_cli.specs.Unfailed.{NothingFailed, RepliesTaken};
+ghost use Rattle.desync_cli.specs.Unfailed.{IndexTaken, NothingFailed, RepliesTaken};
 ghost use Rattle.desync_cli.specs.Commands.{Achieves, DesyncEnds, CommandEnds, TellsRefusal, command_of, listens};
 ghost use Rattle.desync_cli.specs.Commands.{parts};
 ghost use Rattle.desync_cli.specs.Commands.{LeavesBehind, usage_refusal, spares};
@@ -78,8 +78,8 @@ where
     match command {
         Command::Make { store, sizes, workers, digest, index, image } =>
             make(rt, alloc, files, dial, Making { store, sizes, workers, digest, index, image }),
-        Command::VerifyIndex { workers, index, image } => check_image(rt, alloc, files, index, image, workers),
-        Command::ListChunks { index } => print_chunks(alloc, files, out, index),
+        Command::VerifyIndex { workers, index, image } => check_image(rt, alloc, files, dial, index, image, workers),
+        Command::ListChunks { index } => print_chunks(alloc, files, dial, out, index),
         Command::Extract { stores, seeds, cache, in_place, workers, index, target } => {
             let workers = workers as usize;
             extract(rt, alloc, files, dial, Extraction { stores, cache, seeds, in_place, workers, index, target })
@@ -111,7 +111,7 @@ where
             fill_cache(rt, alloc, files, dial, CacheWords { stores, cache, workers, indexes }),
         Command::Verify { store, repair, workers, digest } =>
             verify(rt, alloc, files, out, store, Verification { kind: digest, repair, workers }),
-        Command::Prune { store, indexes } => prune_folder(alloc, files, store, indexes),
+        Command::Prune { store, indexes } => prune_folder(alloc, files, dial, store, indexes),
         Command::Demo { number, size, workers, digest } =>
             demo(rt, alloc, out, number, size, workers as usize, digest),
         Command::ChunkServer { store, host, port, writable, workers, digest } => {
@@ -225,8 +225,8 @@ where
         (world (F.disk files.old) (D.state dial.old) (O.output out.old))
         (world (F.disk files.new) (D.state dial.new) (O.output out.new))) }
 
-    // An extraction whose chunks are all at hand needs no server: where no call on files and folders fails it is done,
-    // or there was no memory, whatever servers send.
+    // An extraction whose index and chunks are all at hand needs no server: where no call on files and folders fails it is
+    // done, or there was no memory, whatever servers send.
     ensures at_hand { DiskQuiet (F.disk files.old) (F.disk files.new) → IfSome (command_of (map string_bytes words.now))
         (λ c. EndsAtHand c (F.disk files.old) result.outcome) }
 
@@ -253,7 +253,11 @@ where
         → IfSome (command_of (map string_bytes words.now)) (λ c. All (RepliesTaken
         (world (F.disk files.old) (D.state dial.old) (O.output out.old))
         (world (F.disk files.new) (D.state dial.new) (O.output out.new)))
-        (parts (heard F.Folder.never_fails (L.state listen.old) (L.state listen.new)) c).stores)
+        (parts (heard F.Folder.never_fails (L.state listen.old) (L.state listen.new)) c).stores
+        × All (IndexTaken
+        (world (F.disk files.old) (D.state dial.old) (O.output out.old))
+        (world (F.disk files.new) (D.state dial.new) (O.output out.new)))
+        (parts (heard F.Folder.never_fails (L.state listen.old) (L.state listen.new)) c).indexes)
         → NothingFailed result.outcome }
 {
     let Ok(mut line) = take_line(alloc, longest(words), err) else {

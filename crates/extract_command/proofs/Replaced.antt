@@ -3,7 +3,8 @@ use Rattle.std.proofs.Common.{◌≡◌, ◌≢◌, ℕ, ◌+◌, List, length, 
 use Rattle.std.proofs.lemmas.List.{length-append}
 use Rattle.caibx_codec.specs.Listing.{Listing}
 use Rattle.command_outcome.specs.declared.outcome.Outcome.{Outcome}
-use Rattle.command_steps.specs.InputFiles.{IndexRead, Listed}
+use Rattle.command_indexes.specs.Gets.{IndexGot}
+use Rattle.command_steps.specs.InputFiles.{Listed}
 use Rattle.command_steps.specs.Seeds.{AllListed, IndexesRead, image_name}
 use Rattle.command_worlds.specs.Steps.{◌>>=◌, Passed}
 use Rattle.command_steps.specs.Sources.{Storage, storage}
@@ -39,16 +40,16 @@ passed_any step next w (Ok b) v h = h
 passed_any step next w (Err o) v h = inr h
 
 -- OUT was made so after the steps before it
-pub ends_with : (sure : NeverFail) (stores : List Location) (cache : Option (List ℕ)) (seeds : List (List ℕ)) (place : Bool) (index out : List ℕ) (l : Listing) (ls : List Listing) (d b c m e : Disk) (k j : DialState) (p : Output) (r : Result Unit Outcome)
-    → IndexRead index d (Ok l) b → IndexesRead seeds b (Ok ls) c → AllReached stores cache c (Ok tt) m → OutMade sure place stores cache out l (record { images = map image_name seeds; listings = ls }) (world m k p) r (world e j p)
-    → ExtractEnds sure stores cache seeds place index out (world d k p) r (world e j p)
-ends_with sure stores cache seeds place index out l ls d b c m e k j p r listed read reached made =
-    passed_any _ _ (world d k p) r (world e j p) (record {
+pub ends_with : (sure : NeverFail) (stores : List Location) (cache : Option (List ℕ)) (seeds : List (List ℕ)) (place : Bool) (index out : List ℕ) (l : Listing) (ls : List Listing) (d b c m e : Disk) (i k j : DialState) (p : Output) (r : Result Unit Outcome)
+    → IndexGot index (storage d i) (Ok l) (storage b k) → IndexesRead seeds b (Ok ls) c → AllReached stores cache c (Ok tt) m → OutMade sure place stores cache out l (record { images = map image_name seeds; listings = ls }) (world m k p) r (world e j p)
+    → ExtractEnds sure stores cache seeds place index out (world d i p) r (world e j p)
+ends_with sure stores cache seeds place index out l ls d b c m e i k j p r listed read reached made =
+    passed_any _ _ (world d i p) r (world e j p) (record {
       disk = b;
       dial = k;
       out = p;
       gave = l;
-      did = (listed, refl, refl);
+      did = (listed, refl);
       then = passed_any _ _ (world b k p) r (world e j p) (record {
         disk = c;
         dial = k;
@@ -60,15 +61,15 @@ ends_with sure stores cache seeds place index out l ls d b c m e k j p r listed 
     })
 
 -- the stores or the cache weren't reached after the indexes were read
-pub ends_unreached : (sure : NeverFail) (stores : List Location) (cache : Option (List ℕ)) (seeds : List (List ℕ)) (place : Bool) (index out : List ℕ) (l : Listing) (ls : List Listing) (d b c e : Disk) (k : DialState) (p : Output) (o : Outcome)
-    → IndexRead index d (Ok l) b → IndexesRead seeds b (Ok ls) c → AllReached stores cache c (Err o) e → ExtractEnds sure stores cache seeds place index out (world d k p) (Err o) (world e k p)
-ends_unreached sure stores cache seeds place index out l ls d b c e k p o listed read refused =
+pub ends_unreached : (sure : NeverFail) (stores : List Location) (cache : Option (List ℕ)) (seeds : List (List ℕ)) (place : Bool) (index out : List ℕ) (l : Listing) (ls : List Listing) (d b c e : Disk) (i k : DialState) (p : Output) (o : Outcome)
+    → IndexGot index (storage d i) (Ok l) (storage b k) → IndexesRead seeds b (Ok ls) c → AllReached stores cache c (Err o) e → ExtractEnds sure stores cache seeds place index out (world d i p) (Err o) (world e k p)
+ends_unreached sure stores cache seeds place index out l ls d b c e i k p o listed read refused =
     inr (record {
       disk = b;
       dial = k;
       out = p;
       gave = l;
-      did = (listed, refl, refl);
+      did = (listed, refl);
       then = inr (record {
         disk = c;
         dial = k;

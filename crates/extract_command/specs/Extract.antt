@@ -34,7 +34,7 @@ use Rattle.dsy_base.specs.declared.fault.IoFault.{IoFault}
 use Rattle.dsy_base.specs.declared.fault.IoFault.TheVariants as io
 use Rattle.command_steps.specs.Asking.{AsksFew, EachDialed, SendsFronts, WorkersDialed}
 use Rattle.command_steps.specs.Cache.{CacheOpened}
-use Rattle.command_steps.specs.InputFiles.{IndexRead, IsListed}
+use Rattle.command_indexes.specs.Gets.{IndexGot}
 use Rattle.command_steps.specs.Seeds.{IndexesRead, image_name}
 use Rattle.command_worlds.specs.Steps.{◌>>=◌}
 use Rattle.command_steps.specs.Sources.{DialsStores, HaveLacked, NotAsking, OnStorage, Storage}
@@ -228,10 +228,10 @@ Assembled w v stores cache out l x (Err ends.Memory) =
     Told w.disk v.disk cache (λ b a n cs. StopsSomewhere w v b a out l (OnlyHad w.disk v.disk b n cs stores out l x))
 Assembled w v stores cache out l x (Err other) = ⊥
 
--- OUT holds afterwards the image that INDEX listed before
-pub record IsExtracted (before after : Map (List ℕ)) (index out : List ℕ) : Type 0 where
+-- OUT holds afterwards the image that INDEX, which spells an index as is said, lists
+pub record IsExtracted (Spelled : List ℕ → Listing → Type 0) (after : Map (List ℕ)) (index out : List ℕ) : Type 0 where
   pub listing : Listing
-  pub listed : IsListed before index listing
+  pub listed : Spelled index listing
   pub image : List ℕ
   pub holds : after out ≡ Some image
   pub right : IsRight image listing
@@ -408,7 +408,7 @@ OutMade sure false stores cache out l x = do
 abbrev pub ExtractEnds : NeverFail → List Location → Option (List ℕ) → List (List ℕ) → Bool → List ℕ → List ℕ
     → Step World Unit
 ExtractEnds sure stores cache seeds in_place index out = do
-  l ← OnDisk (IndexRead index)
+  l ← OnStorage (IndexGot index)
   ls ← OnDisk (IndexesRead seeds)
   _ ← OnDisk (SourcesOpened stores)
   _ ← OnDisk (CacheOpened stores cache)

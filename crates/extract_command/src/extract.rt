@@ -7,6 +7,7 @@ ghost use Rattle.caibx_codec.specs.Listing.{Listing, kind_of};
 ghost use Rattle.command_steps.specs.Seeds.{image_name};
 ghost use Rattle.command_steps.specs.Sources.{DialsStores, storage};
 ghost use Rattle.command_steps.specs.Uses.{Uses};
+ghost use Rattle.command_words.specs.Locations.{NamesIndex};
 ghost use Rattle.command_worlds.specs.Worlds.{world};
 ghost use Rattle.extract_command.specs.Extract.{Assembled, ClearedAfter, ExtractEnds, FillsCache, IsNoFile};
 ghost use Rattle.extract_command.specs.Extract.{IsNumbered, OutMade, Renamed, answer_of_assembly, answer_of_taking};
@@ -20,8 +21,8 @@ use crate::held::{Held, give_back, into_kits, let_go, of_kits, reach};
 use crate::kits::open_kits;
 use assembler::fault::ExtractFault;
 use caibx_codec::index::Index;
+use command_indexes::load::load_index;
 use command_outcome::outcome::Outcome;
-use command_steps::input_files::load_index;
 use command_steps::seeds::{open_seeds, read_indexes};
 use command_words::command::{Locations, Names};
 use dsy_base::dial::Dial;
@@ -321,6 +322,7 @@ where
     D::Link: Send,
     requires stores { (1 ≤ length words.stores) × (length words.stores ≤ 16) }
     requires seeds { length words.seeds ≤ 64 }
+    requires named { NamesIndex words.index }
     ensures ends { (p : Output) → ExtractEnds
         (never_fail F.Target.never_fails F.Folder.never_fails) words.stores words.cache words.seeds words.in_place
         words.index words.target (world (F.disk files.old) (D.state dial.old) p) result
@@ -336,7 +338,7 @@ where
         target,
     } = words;
     let workers = worker_count(workers);
-    let listed = load_index(alloc, files, index)?;
+    let listed = load_index(alloc, files, dial, index)?;
     let indexes = read_indexes(alloc, files, seeds.as_slice())?;
     let Ok(planned) = plan_of(alloc, listed, seeds, indexes, stores, workers) else {
         return Err(Outcome::Memory);

@@ -4,7 +4,8 @@ use Rattle.buzhash_cut.specs.Sizes.{Sizes}
 use Rattle.caibx_codec.specs.Listing.{Listing}
 use Rattle.chunk_store.specs.declared.id.DigestKind.{DigestKind}
 use Rattle.command_outcome.specs.declared.outcome.Outcome.{Outcome}
-use Rattle.command_steps.specs.InputFiles.{ImageOpened, IndexRead}
+use Rattle.command_indexes.specs.Gets.{IndexGot}
+use Rattle.command_steps.specs.InputFiles.{ImageOpened}
 use Rattle.command_steps.specs.Sources.{storage}
 use Rattle.command_steps.specs.TakenStores.{SourceTaken}
 use Rattle.command_words.specs.declared.command.Location.{Location}
@@ -15,13 +16,13 @@ use Rattle.dsy_base.specs.Maps.{Map}
 use Rattle.image_commands.specs.Chop.{ChopEnds, ImageChopped}
 use Rattle.image_commands.specs.Make.{ImageStored, IndexWritten, MakeEnds, SizesJudged, StoredInto}
 
-pub chop_ends : (store : Location) (index image : List ℕ) (l : Listing) (told : Option (List ℕ)) (held : Option (Map (List ℕ))) (k j : DialState) (p : Output) (a b c d e : Disk) (r : Result Unit Outcome)
-    → IndexRead index a (Ok l) b → ImageOpened image b (Ok told) c → SourceTaken (image ∷ []) store c (Ok held) d → ImageChopped l image told store held (storage d k) r (storage e j)
-    → ChopEnds store index image (world a k p) r (world e j p)
-chop_ends store index image l told held k j p a b c d e (Ok u) read opened taken chopped =
-    record { disk = b; dial = k; out = p; gave = l; did = (read, refl, refl); then = record { disk = c; dial = k; out = p; gave = told; did = (opened, refl, refl); then = record { disk = d; dial = k; out = p; gave = held; did = (taken, refl, refl); then = (chopped, refl) } } }
-chop_ends store index image l told held k j p a b c d e (Err o) read opened taken chopped =
-    inr (record { disk = b; dial = k; out = p; gave = l; did = (read, refl, refl); then = inr (record { disk = c; dial = k; out = p; gave = told; did = (opened, refl, refl); then = inr (record { disk = d; dial = k; out = p; gave = held; did = (taken, refl, refl); then = (chopped, refl) }) }) })
+pub chop_ends : (store : Location) (index image : List ℕ) (l : Listing) (told : Option (List ℕ)) (held : Option (Map (List ℕ))) (i k j : DialState) (p : Output) (a b c d e : Disk) (r : Result Unit Outcome)
+    → IndexGot index (storage a i) (Ok l) (storage b k) → ImageOpened image b (Ok told) c → SourceTaken (image ∷ []) store c (Ok held) d → ImageChopped l image told store held (storage d k) r (storage e j)
+    → ChopEnds store index image (world a i p) r (world e j p)
+chop_ends store index image l told held i k j p a b c d e (Ok u) read opened taken chopped =
+    record { disk = b; dial = k; out = p; gave = l; did = (read, refl); then = record { disk = c; dial = k; out = p; gave = told; did = (opened, refl, refl); then = record { disk = d; dial = k; out = p; gave = held; did = (taken, refl, refl); then = (chopped, refl) } } }
+chop_ends store index image l told held i k j p a b c d e (Err o) read opened taken chopped =
+    inr (record { disk = b; dial = k; out = p; gave = l; did = (read, refl); then = inr (record { disk = c; dial = k; out = p; gave = told; did = (opened, refl, refl); then = inr (record { disk = d; dial = k; out = p; gave = held; did = (taken, refl, refl); then = (chopped, refl) }) }) })
 
 -- the store was taken, and storing the image in it ended with r
 pub stored_into : (store : Location) (kind : DigestKind) (s : Sizes) (image : List ℕ) (told : Option (List ℕ)) (held : Option (Map (List ℕ))) (k j : DialState) (p : Output) (b c d : Disk) (r : Result (List ℕ) Outcome)

@@ -7,7 +7,8 @@ use Rattle.chunk_store.specs.Folders.{chunks}
 use Rattle.command_outcome.specs.declared.outcome.Outcome.{Outcome}
 use Rattle.command_outcome.specs.declared.outcome.Outcome.TheVariants as ends
 use Rattle.command_steps.specs.Asking.{Asks, AsksOnly, EachDialed}
-use Rattle.command_steps.specs.InputFiles.{ImageOpened, IndexRead, IsListed}
+use Rattle.command_indexes.specs.Gets.{IndexGot}
+use Rattle.command_steps.specs.InputFiles.{ImageOpened}
 use Rattle.command_steps.specs.Sources.{OnStorage, Storage, StoreRose, said_at}
 use Rattle.command_steps.specs.Stores.{is_folder}
 use Rattle.command_worlds.specs.Steps.{◌>>=◌}
@@ -88,14 +89,15 @@ answer_of_chop (Err faults.Memory) = Err ends.Memory
 
 abbrev pub ChopEnds : Location → List ℕ → List ℕ → Step World Unit
 ChopEnds store index image = do
-  l ← OnDisk (IndexRead index)
+  l ← OnStorage (IndexGot index)
   told ← OnDisk (ImageOpened image)
   held ← OnDisk (SourceTaken (image ∷ []) store)
   OnStorage (ImageChopped l image told store held)
 
--- INDEX is the index file of this index, and IMAGE the image that it lists
-pub record IsChopped (files : Map (List ℕ)) (index image : List ℕ) (l : Listing) : Type 0 where
-  pub listed : IsListed files index l
+-- INDEX spells this index, as is said, and IMAGE is the image that it lists
+pub record IsChopped (Spelled : List ℕ → Listing → Type 0) (files : Map (List ℕ)) (index image : List ℕ) (l : Listing)
+    : Type 0 where
+  pub listed : Spelled index l
   pub bytes : List ℕ
   pub there : files image ≡ Some bytes
   pub right : IsRight bytes l

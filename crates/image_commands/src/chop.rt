@@ -1,12 +1,13 @@
 //! `chop -s STORE -n N INDEX IMAGE`: STORE holds each chunk that INDEX lists, which are IMAGE's.
 
 ghost use Rattle.std.specs.Prelude.{◌≡◌};
+ghost use Rattle.command_words.specs.Locations.{NamesIndex};
 ghost use Rattle.command_worlds.specs.Worlds.{world};
 ghost use Rattle.image_commands.specs.Chop.{ChopEnds, answer_of_chop};
 ghost use Rattle.dsy_base.specs.Disk.{Output};
 
+use command_indexes::load::load_index;
 use command_outcome::outcome::Outcome;
-use command_steps::input_files::load_index;
 use command_steps::taken_stores::{give_source, take_source};
 use command_words::command::Location;
 use dsy_base::dial::Dial;
@@ -53,6 +54,7 @@ pub fn chop_into_store<R: Threads + Sync, F: ImageFiles, D: Dial>(
 ) -> Result<(), Outcome>
 where
     F::View: Send,
+    requires { NamesIndex words.index }
     ensures ends { (p : Output) → ChopEnds words.store words.index words.image
         (world (F.disk files.old) (D.state dial.old) p) result
         (world (F.disk files.new) (D.state dial.new) p) }
@@ -63,7 +65,7 @@ where
         index,
         image,
     } = words;
-    let listed = load_index(alloc, files, index)?;
+    let listed = load_index(alloc, files, dial, index)?;
     let opened = open_for(alloc, files, image, workers)?;
     let taken = match take_source(alloc, files, dial, &store) {
         Ok(taken) => taken,

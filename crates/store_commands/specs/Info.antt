@@ -11,12 +11,12 @@ use Rattle.dsy_base.specs.Maps.{Map}
 use Rattle.verify_tool.specs.Counts.{DeniesOthers, held_count, is_listed_before}
 use Rattle.verify_tool.specs.Texts.{text_of_info, unique_count}
 use Rattle.command_steps.specs.Asking.{AsksOnly, EachDialed}
-use Rattle.command_steps.specs.InputFiles.{IndexRead}
+use Rattle.command_indexes.specs.Gets.{IndexGot}
 use Rattle.command_worlds.specs.Printing.{Printed}
 use Rattle.command_worlds.specs.Steps.{◌>>=◌}
 use Rattle.command_steps.specs.Sources.{AllThere, ConsultsStores, FailsFirst, FirstUnreached}
 use Rattle.command_steps.specs.Sources.{OnStorage, Storage, said_at, location_files}
-use Rattle.command_worlds.specs.Worlds.{OnDisk, OnOut, Step, World}
+use Rattle.command_worlds.specs.Worlds.{OnOut, Step, World}
 
 -- a store failed when all were asked whether they have a listed chunk: the first of those that don't deny it
 abbrev pub NotAsked : Storage → Storage → List Location → Listing → Outcome → Type 0
@@ -54,6 +54,6 @@ IdsCounted stores l w r v = CountedInStores w v stores l r × ConsultsStores sto
 
 abbrev pub InfoEnds : List Location → List ℕ → Step World Unit
 InfoEnds stores index = do
-  l ← OnDisk (IndexRead index)
+  l ← OnStorage (IndexGot index)
   n ← OnStorage (IdsCounted stores l)
   OnOut (Printed (text_of_info l n))

@@ -5,8 +5,7 @@ use Rattle.std.specs.Option.{option_map}
 use Rattle.caibx_codec.specs.Listing.{Listing}
 use Rattle.command_outcome.specs.declared.outcome.Outcome.{Outcome}
 use Rattle.command_outcome.specs.declared.outcome.Outcome.TheVariants as ends
-use Rattle.command_steps.specs.InputFiles.{IsListed}
-use Rattle.command_steps.specs.Seeds.{IndexesRead}
+use Rattle.command_indexes.specs.Gets.{IndexesGot}
 use Rattle.command_worlds.specs.Steps.{◌>>=◌}
 use Rattle.command_steps.specs.Stores.{StoreTaken}
 use Rattle.command_worlds.specs.Worlds.{Adds, FolderRose, OnDisk, Step, World}
@@ -38,16 +37,16 @@ module _ (keeps : List ℕ → Bool) (q : List ℕ) (held : Option (Map (List �
 -- the indexes are read before anything is removed
 abbrev pub PruneEnds : List ℕ → List (List ℕ) → Step World Unit
 PruneEnds store indexes = do
-  ls ← OnDisk (IndexesRead indexes)
+  ls ← IndexesGot 0 indexes
   held ← OnDisk (StoreTaken [] store)
   OnDisk (StorePruned (is_listed_in ls) store held)
 
--- each INDEX is an index file, and the store's folder, which was there, holds its files without those that are no
--- listed chunk's and no stranger. No other folder has changed
-pub record IsPruned (files : Map (List ℕ)) (folders folders_after : Map (Map (List ℕ))) (store : List ℕ)
+-- each INDEX spells an index, as is said, and the store's folder, which was there, holds its files without those that
+-- are no listed chunk's and no stranger. No other folder has changed
+pub record IsPruned (Spelled : List ℕ → Listing → Type 0) (folders folders_after : Map (Map (List ℕ))) (store : List ℕ)
     (indexes : List (List ℕ)) : Type 0 where
   pub listings : List Listing
-  pub listed : AllZip (IsListed files) indexes listings
+  pub listed : AllZip Spelled indexes listings
   pub held : Map (List ℕ)
   pub folder_was : folders store ≡ Some held
   pub folder_is : folders_after ≡ at_name folders store (Some (pruned (is_listed_in listings) held))

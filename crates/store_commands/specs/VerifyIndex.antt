@@ -8,7 +8,9 @@ use Rattle.image_check.specs.Checks.{IsFirstWrong}
 use Rattle.image_check.specs.declared.check.CheckFault.{CheckFault}
 use Rattle.image_check.specs.declared.check.CheckFault.TheVariants as checks
 use Rattle.dsy_base.specs.Maps.{Map}
-use Rattle.command_steps.specs.InputFiles.{ImageOpened, IndexRead, IsListed}
+use Rattle.command_indexes.specs.Gets.{IndexGot}
+use Rattle.command_steps.specs.InputFiles.{ImageOpened}
+use Rattle.command_steps.specs.Sources.{OnStorage}
 use Rattle.command_worlds.specs.Steps.{◌>>=◌}
 use Rattle.command_worlds.specs.Worlds.{FileRose, OnDisk, Reads, Step, World}
 use Rattle.dsy_base.specs.Disk.{Disk}
@@ -28,7 +30,7 @@ ImageChecked image l told d r e = Checked d e image l told r × Reads d e
 
 abbrev pub VerifyIndexEnds : List ℕ → List ℕ → Step World Unit
 VerifyIndexEnds index image = do
-  l ← OnDisk (IndexRead index)
+  l ← OnStorage (IndexGot index)
   told ← OnDisk (ImageOpened image)
   OnDisk (ImageChecked image l told)
 
@@ -40,10 +42,10 @@ answer_of_check (Err (checks.Mismatch k got)) = Err (ends.Mismatch k got)
 answer_of_check (Err checks.ImageFault) = Err ends.ImageFault
 answer_of_check (Err checks.Memory) = Err ends.Memory
 
--- IMAGE is the image that INDEX lists
-pub record IsVerified (files : Map (List ℕ)) (index image : List ℕ) : Type 0 where
+-- IMAGE is the image that INDEX, which spells an index as is said, lists
+pub record IsVerified (Spelled : List ℕ → Listing → Type 0) (files : Map (List ℕ)) (index image : List ℕ) : Type 0 where
   pub listing : Listing
-  pub listed : IsListed files index listing
+  pub listed : Spelled index listing
   pub bytes : List ℕ
   pub there : files image ≡ Some bytes
   pub right : IsRight bytes listing

@@ -6,12 +6,13 @@ ghost use Rattle.store_commands.specs.Info.{CountedInStores, InfoEnds, asks_once
 ghost use Rattle.command_steps.specs.Asking.{AsksOnly, EachDialed};
 ghost use Rattle.command_worlds.specs.Printing.{Printed};
 ghost use Rattle.command_steps.specs.Sources.{ConsultsStores, storage};
+ghost use Rattle.command_words.specs.Locations.{NamesIndex};
 ghost use Rattle.command_worlds.specs.Worlds.{world};
 ghost use Rattle.verify_tool.specs.Texts.{text_of_info};
 
 use caibx_codec::index::Index;
+use command_indexes::load::load_index;
 use command_outcome::outcome::Outcome;
-use command_steps::input_files::load_index;
 use command_steps::sources::{close_sources, open_sources};
 use command_words::command::{Location, Locations};
 use command_worlds::printing::printed;
@@ -79,11 +80,12 @@ pub fn print_info<F: Files, D: Dial, O: Sink>(
     stores: Locations,
     index: Name,
 ) -> Result<(), Outcome>
-    requires { length stores ≤ 16 }
+    requires size { length stores ≤ 16 }
+    requires named { NamesIndex index }
     ensures ends { InfoEnds stores index (world (F.disk files.old) (D.state dial.old) (O.output out.old)) result
         (world (F.disk files.new) (D.state dial.new) (O.output out.new)) }
 {
-    let listed = load_index(alloc, files, index)?;
+    let listed = load_index(alloc, files, dial, index)?;
     let held = count(alloc, files, dial, &listed, stores.as_slice())?;
     print(alloc, &listed, held, out)?;
     Ok(())

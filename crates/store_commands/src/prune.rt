@@ -1,19 +1,20 @@
 //! `prune -s STORE -y INDEX..`: STORE keeps no chunk but those that the indexes list.
 
-ghost use Rattle.std.specs.Prelude.{◌≡◌, ℕ, List, IfErr, IfOk, IsSome};
+ghost use Rattle.std.specs.Prelude.{◌≡◌, ℕ, List, All, IfErr, IfOk, IsSome};
+ghost use Rattle.command_words.specs.Locations.{NamesIndex};
 ghost use Rattle.command_worlds.specs.Worlds.{world};
 ghost use Rattle.store_commands.specs.Prune.{PruneEnds, StorePruned};
 ghost use Rattle.dsy_base.specs.Disk.{Output};
-ghost use Rattle.dsy_base.specs.Links.{DialState};
 ghost use Rattle.verify_tool.specs.Pruning.{has_id, is_listed_in};
 
 use caibx_codec::index::Index;
 use chunk_store::id::ChunkId;
+use command_indexes::load::load_indexes;
 use command_outcome::outcome::Outcome;
-use command_steps::seeds::read_indexes;
 use command_steps::taken_stores::{give_folder, take_folder};
 use command_words::command::Names;
 use dir_store::store::DirStore;
+use dsy_base::dial::Dial;
 use dsy_base::fault::IoFault;
 use dsy_base::files::Files;
 use dsy_base::folder::Folder;
@@ -57,16 +58,18 @@ fn prune_taken<F: Files>(
 }
 
 /// Removes the chunk files of STORE that no INDEX lists, and temporary files, once all indexes have been read.
-pub fn prune_folder<F: Files>(
+pub fn prune_folder<F: Files, D: Dial>(
     alloc: Global,
     files: &mut F,
+    dial: &mut D,
     store: Name,
     indexes: Names,
 ) -> Result<(), Outcome>
-    ensures ends { (k : DialState) (p : Output) → PruneEnds store indexes (world (F.disk files.old) k p) result
-        (world (F.disk files.new) k p) }
+    requires { All NamesIndex indexes }
+    ensures ends { (p : Output) → PruneEnds store indexes (world (F.disk files.old) (D.state dial.old) p) result
+        (world (F.disk files.new) (D.state dial.new) p) }
 {
-    let listed = read_indexes(alloc, files, indexes.as_slice())?;
+    let listed = load_indexes(alloc, files, dial, indexes.as_slice())?;
     let keep = kept_ids(alloc, &listed)?;
     let taken = take_folder(alloc, files, store.as_str())?;
     prune_taken(files, store.as_str(), taken, &keep)?;

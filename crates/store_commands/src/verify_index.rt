@@ -2,14 +2,15 @@
 
 ghost use Rattle.std.specs.Prelude.{◌≡◌, All, IfSome, IsSome, length, map};
 ghost use Rattle.store_commands.specs.VerifyIndex.{Checked, VerifyIndexEnds, answer_of_check};
+ghost use Rattle.command_words.specs.Locations.{NamesIndex};
 ghost use Rattle.command_worlds.specs.Worlds.{Reads, world};
 ghost use Rattle.dsy_base.specs.Disk.{Output};
-ghost use Rattle.dsy_base.specs.Links.{DialState};
 ghost use Rattle.image_slices.specs.Consumers.{IsAlike};
 
 use caibx_codec::index::Index;
+use command_indexes::load::load_index;
 use command_outcome::outcome::Outcome;
-use command_steps::input_files::load_index;
+use dsy_base::dial::Dial;
 use dsy_base::files::Files;
 use dsy_base::image_files::ImageFiles;
 use dsy_base::name::Name;
@@ -58,20 +59,23 @@ where
 }
 
 /// Tells whether IMAGE is the image that INDEX lists, with this many workers: its length, then each chunk in order.
-pub fn check_image<R: Threads + Sync, F: ImageFiles>(
+pub fn check_image<R: Threads + Sync, F: ImageFiles, D: Dial>(
     rt: &R,
     alloc: Global,
     files: &mut F,
+    dial: &mut D,
     index: Name,
     image: Name,
     workers: u32,
 ) -> Result<(), Outcome>
 where
     F::View: Send,
-    ensures ends { (k : DialState) (p : Output) → VerifyIndexEnds index image (world (F.disk files.old) k p) result
-        (world (F.disk files.new) k p) }
+    requires { NamesIndex index }
+    ensures ends { (p : Output) → VerifyIndexEnds index image
+        (world (F.disk files.old) (D.state dial.old) p) result
+        (world (F.disk files.new) (D.state dial.new) p) }
 {
-    let listed = load_index(alloc, files, index)?;
+    let listed = load_index(alloc, files, dial, index)?;
     let opened = open_for(alloc, files, image, workers)?;
     check_opened(rt, alloc, files, &listed, opened)?;
     Ok(())

@@ -7,11 +7,15 @@ use Rattle.cache_command.proofs.cache.fill_between.Goals as goal
 use Rattle.cache_command.specs.Caching.{FillsEach, of_calls}
 use Rattle.cache_command.specs.Filling.{AsksListings}
 use Rattle.cache_store.specs.Shelves.{shelf_of}
+use Rattle.cache_command.proofs.AskedListings.{front_wider}
+use Rattle.command_indexes.proofs.Spelled.{IsPart}
 use Rattle.command_steps.proofs.Cached.{given_adds}
+use Rattle.command_steps.proofs.Dialed.{dials_none}
 use Rattle.command_steps.proofs.Given.{all_later}
 use Rattle.cache_command.proofs.LentChains.{chains_consult}
 use Rattle.command_steps.specs.AnyStores.{IsGiven, IsKnown, location_in, said_in, source_faults, source_files, with_those}
-use Rattle.command_steps.specs.Cache.{CacheGiven}
+use Rattle.command_steps.specs.Cache.{CacheGiven, with_cache}
+use Rattle.command_worlds.specs.Worlds.{Adds}
 use Rattle.cache_command.specs.Chains.{CanGiveChain, chain_stores}
 use Rattle.command_steps.specs.Sources.{ConsultsStores, storage}
 use Rattle.command_words.specs.declared.command.Location.{Location}
@@ -23,7 +27,7 @@ give_shelf-requires g c =
     let given : c.into_parts-shelf.result.0.folder ≡ c.fill_each-filling.result.0.cached.shelf.folder = ap (λ p. p.0.folder) c.into_parts-shelf.ensures in
     record {
       named = ap D.place given ∙ over.place ∙ c.requires.reached.cache_named;
-      known = over.kept.folder_known _ c.requires.reached.cache_known;
+      known = over.had.reads.folder_known _ c.requires.reached.cache_known;
     }
 
 pub close_chains-requires : goal.close_chains-requires
@@ -39,7 +43,7 @@ close_chains-requires g c =
     let asked = c.fill_each-filling.ensures.asks in
     let gave = given_adds (Some (shelf_of D.files D.place D.faults c.into_parts-shelf.result.0)) (at c.fill_each-filling.new.files) (at c.give_shelf.new.files) c.give_shelf.ensures.given in
     let stand = chains_stand look state _ refl refl refl refl asked.0 names more further asked.2.1 c.requires.reached.located in
-    let known = all_later (at c.args.files.now).folder_counts (at c.give_shelf.new.files).folder_counts (λ q is. gave.folder_known q (c.fill_each-filling.ensures.kept.folder_known q is)) names (All-head (CanGiveChain look (at c.args.files.now)) first more c.requires.reached.given) in
+    let known = all_later (at c.args.files.now).folder_counts (at c.give_shelf.new.files).folder_counts (λ q is. gave.folder_known q (c.fill_each-filling.ensures.had.reads.folder_known q is)) names (All-head (CanGiveChain look (at c.args.files.now)) first more c.requires.reached.given) in
     record { given = λ n x lt. subst (λ (l : List Location). All (IsKnown (at c.give_shelf.new.files).folder_counts) l) (sym (stand n x lt)) known }
 
 pub close_sources-requires : goal.close_sources-requires
@@ -58,8 +62,8 @@ close_sources-requires g c =
     let located = ap (map (location_in look.place)) last ∙ chain_stands look state _ refl refl refl refl over.asks.0 first c.fill_each-filling.result.0.cached.chain over.asks.2.0 in
     let gave = given_adds (Some (shelf_of D.files D.place D.faults c.into_parts-shelf.result.0)) (at c.fill_each-filling.new.files) (at c.give_shelf.new.files) c.give_shelf.ensures.given in
     let stand = chains_stand look state _ refl refl refl refl over.asks.0 names more further over.asks.2.1 c.requires.reached.located in
-    let closed = chains_consult look state names further (storage (at c.give_shelf.new.files) (state c.args.dial.now)) (storage (at c.close_chains.new.files) (state c.close_chains.new.dial)) stand c.close_chains.ensures.given in
-    let known = all_later (at c.args.files.now).folder_counts (at c.close_chains.new.files).folder_counts (λ q is. closed.0.disk.folder_known q (gave.folder_known q (over.kept.folder_known q is))) names (All-head (CanGiveChain look (at c.args.files.now)) first more c.requires.reached.given) in
+    let closed = chains_consult look state names further (storage (at c.give_shelf.new.files) (state c.fill_each-filling.new.dial)) (storage (at c.close_chains.new.files) (state c.close_chains.new.dial)) stand c.close_chains.ensures.given in
+    let known = all_later (at c.args.files.now).folder_counts (at c.close_chains.new.files).folder_counts (λ q is. closed.0.disk.folder_known q (gave.folder_known q (over.had.reads.folder_known q is))) names (All-head (CanGiveChain look (at c.args.files.now)) first more c.requires.reached.given) in
     record { known = subst (λ (l : List Location). All (IsKnown (at c.close_chains.new.files).folder_counts) l) (sym located) known }
 
 pub returns : goal.returns
@@ -90,7 +94,8 @@ returns g c =
     let m = at c.give_shelf.new.files in
     let f = at c.close_chains.new.files in
     let e = at c.close_sources.new.files in
-    let k = state c.args.dial.now in
+    let n = state c.args.dial.now in
+    let k = state c.fill_each-filling.new.dial in
     let i = state c.close_chains.new.dial in
     let j = state c.close_sources.new.dial in
     let asked = over.asks in
@@ -105,11 +110,21 @@ returns g c =
     let gained = subst (λ ys. All (IsGiven place faults state (storage f i) (storage e j)) ys) last c.close_sources.ensures.given in
     let all_closed = all_consulted look state names further (storage m k) (storage f i) (storage e j) stand turn closed in
     let all_gained = all_given look state faults names further after (storage m k) (storage f i) (storage e j) stand turn closed gained in
-    let at_zero = subst (λ (n : ℕ). FillsEach (of_calls told said counted first.stores after n t.faults) d0 b indexes s.files t.files c.fill_each-filling.result.1) c.requires.reached.cache_fresh over.filled in
+    let at_zero = subst (λ (z : ℕ). FillsEach (of_calls told said counted first.stores after z t.faults) (storage d0 n) (storage b k) indexes s.files t.files c.fill_each-filling.result.1) c.requires.reached.cache_fresh over.filled in
     let ended = subst (λ ys. j.ended ≡ fold (with_those state) i.ended ys) last c.close_sources.ensures.ended in
     let gets = all_dialed look state _ refl refl refl refl asked.0 names first chain more further (storage m k) (storage f i) j.ended asked.2.0 asked.2.1 c.requires.reached.unused refl c.requires.reached.located turn ended in
+    let had = over.had in
+    let gave : Adds b m = given_adds (Some t) b m gives in
+    let part : IsPart (storage (with_cache (Some s) d0) n) (storage d0 n) (storage b k) (storage e j) = record {
+      files = refl;
+      before = dials_none n;
+      during = had.dials;
+      after = all_closed.0.dial;
+      counts = λ a. omega arith;
+      later = λ a. let one = gave.counts a in let two = all_closed.0.disk.counts a in omega (arith, one, two);
+    } in
     let many : length more ≡ length further = length_all_zip (AsksListings _ asked.0) more further asked.2.1 in
     record {
-      filled = filled_between files place faults state cache s t d0 b m e k j names first.stores after c.requires.reached.cache_named (over.place ∙ c.requires.reached.cache_named) over.kept gives all_closed c.requires.reached.fresh located asked.2.0.keeps.files c.requires.reached.found all_gained (1 + length more) indexes c.fill_each-filling.result.1 at_zero
-          (record { listings = asked.0; read = asked.1; workers = 1 + length further; some = omega arith; few = omega (arith, many); gets = gets });
+      filled = filled_between files place faults state cache s t d0 b m e n k j names first.stores after c.requires.reached.cache_named (over.place ∙ c.requires.reached.cache_named) had.reads gives all_closed c.requires.reached.fresh located asked.2.0.keeps.files c.requires.reached.found all_gained part (1 + length more) indexes c.fill_each-filling.result.1 at_zero had.undialed
+          (record { listings = asked.0; read = front_wider (storage (with_cache (Some s) d0) n) (storage d0 n) (storage b k) (storage e j) part indexes asked.0 asked.1; ended = k.ended; fetches = had.asks; workers = 1 + length further; some = omega arith; few = omega (arith, many); gets = gets });
     }

@@ -1,4 +1,5 @@
 use Rattle.std.proofs.Common.{false, map, string_bytes}
+use Rattle.desync_cli.proofs.Fair.{done_fits}
 use Rattle.desync_cli.proofs.RoundTrip.{round_trip}
 use Rattle.desync_cli.proofs.in_memory.make_then_extract.Goals as goal
 use Rattle.desync_cli.specs.Commands.{command_of}
@@ -28,5 +29,6 @@ returns g c =
           (file_counts_of before.files) (folder_counts_of before.files) (file_counts_of between.files) (folder_counts_of between.files) (file_counts_of after.files) (folder_counts_of after.files)
           (dialed before.dial) (dialed between.dial) (dialed after.dial)
           (output_of before.out) (output_of between.out) (output_of after.out)
+          (done_fits false (heard false (heard_by before.listen) (heard_by between.listen)) (map string_bytes c.args.make.now) _ _ _ c.desync_in_memory-made.ensures.ends made)
           (c.desync_in_memory-made.ensures.done made) (c.desync_in_memory-extracted.ensures.done extracted);
     }

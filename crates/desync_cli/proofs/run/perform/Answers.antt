@@ -6,7 +6,7 @@ pub returns-in-Make : goal.returns-in-Make
 returns-in-Make g c = record { unheard = λ _. refl; ends = rw c.in-Make.is (c.make.ensures.ends _) }
 
 pub returns-in-VerifyIndex : goal.returns-in-VerifyIndex
-returns-in-VerifyIndex g c = record { unheard = λ _. refl; ends = rw c.in-VerifyIndex.is (c.check_image.ensures.ends _ _) }
+returns-in-VerifyIndex g c = record { unheard = λ _. refl; ends = rw c.in-VerifyIndex.is (c.check_image.ensures.ends _) }
 
 pub returns-in-Extract : goal.returns-in-Extract
 returns-in-Extract g c = record { unheard = λ _. refl; ends = rw c.in-Extract.is (c.extract.ensures.ends _) }
@@ -18,10 +18,10 @@ pub returns-in-Cache : goal.returns-in-Cache
 returns-in-Cache g c = record { unheard = λ _. refl; ends = rw c.in-Cache.is (c.fill_cache.ensures.ends _) }
 
 pub returns-in-ListChunks : goal.returns-in-ListChunks
-returns-in-ListChunks g c = record { unheard = λ _. refl; ends = rw c.in-ListChunks.is (c.print_chunks.ensures.ends _) }
+returns-in-ListChunks g c = record { unheard = λ _. refl; ends = rw c.in-ListChunks.is c.print_chunks.ensures.ends }
 
 pub returns-in-Prune : goal.returns-in-Prune
-returns-in-Prune g c = record { unheard = λ _. refl; ends = rw c.in-Prune.is (c.prune_folder.ensures.ends _ _) }
+returns-in-Prune g c = record { unheard = λ _. refl; ends = rw c.in-Prune.is (c.prune_folder.ensures.ends _) }
 
 pub returns-in-Verify : goal.returns-in-Verify
 returns-in-Verify g c = record { unheard = λ _. refl; ends = rw c.in-Verify.is (c.verify.ensures.ends _) }

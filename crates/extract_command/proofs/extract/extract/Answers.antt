@@ -81,8 +81,8 @@ returns-in_default g c =
     let read = c.in_ok-indexes.ensures in
     let e = at c.read_indexes.new.files in
     record {
-      ends = λ p. ends_unreached (never_fail g.F.Target.View.never_fails g.F.Folder.Look.never_fails) words.stores words.cache words.seeds words.in_place words.index words.target c.in_ok-listed.listed c.in_ok-indexes.indexes.items (at c.args.files.now) (at c.load_index.new.files) e e (g.D.Dial.state c.args.dial.now) p ends.Memory
-          (listed.ok, listed.kept, listed.used) ((rw c.as_slice.ensures at read.ok, read.few), read.kept, rw c.as_slice.ensures at read.used) (inl (inr refl, reads_none e, uses_none [] (folders_among words.stores) e));
+      ends = λ p. ends_unreached (never_fail g.F.Target.View.never_fails g.F.Folder.Look.never_fails) words.stores words.cache words.seeds words.in_place words.index words.target c.in_ok-listed.listed c.in_ok-indexes.indexes.items (at c.args.files.now) (at c.load_index.new.files) e e (g.D.Dial.state c.args.dial.now) (g.D.Dial.state c.load_index.new.dial) p ends.Memory
+          listed.ends ((rw c.as_slice.ensures at read.ok, read.few), read.kept, rw c.as_slice.ensures at read.used) (inl (inr refl, reads_none e, uses_none [] (folders_among words.stores) e));
     }
 
 pub returns-in_default-temporary_out : goal.returns-in_default-temporary_out
@@ -93,8 +93,8 @@ returns-in_default-temporary_out g c =
     let read = c.in_ok-indexes.ensures in
     let e = at c.read_indexes.new.files in
     record {
-      ends = λ p. ends_unreached (never_fail g.F.Target.View.never_fails g.F.Folder.Look.never_fails) words.stores words.cache words.seeds words.in_place words.index words.target c.in_ok-listed.listed c.in_ok-indexes.indexes.items (at c.args.files.now) (at c.load_index.new.files) e e (g.D.Dial.state c.args.dial.now) p ends.Memory
-          (listed.ok, listed.kept, listed.used) ((rw c.as_slice.ensures at read.ok, read.few), read.kept, rw c.as_slice.ensures at read.used) (inl (inr refl, reads_none e, uses_none [] (folders_among words.stores) e));
+      ends = λ p. ends_unreached (never_fail g.F.Target.View.never_fails g.F.Folder.Look.never_fails) words.stores words.cache words.seeds words.in_place words.index words.target c.in_ok-listed.listed c.in_ok-indexes.indexes.items (at c.args.files.now) (at c.load_index.new.files) e e (g.D.Dial.state c.args.dial.now) (g.D.Dial.state c.load_index.new.dial) p ends.Memory
+          listed.ends ((rw c.as_slice.ensures at read.ok, read.few), read.kept, rw c.as_slice.ensures at read.used) (inl (inr refl, reads_none e, uses_none [] (folders_among words.stores) e));
     }
 
 pub returns-in-Err : goal.returns-in-Err
@@ -106,7 +106,7 @@ returns-in-Err g c =
     let refused = rw (c.as_slice-stores.ensures, c.in-Ok.ensures.stores) at c.in-Err.ensures.err in
     record {
       ends = λ p. ends_unreached (never_fail g.F.Target.View.never_fails g.F.Folder.Look.never_fails) words.stores words.cache words.seeds words.in_place words.index words.target c.in_ok-listed.listed c.in_ok-indexes.indexes.items (at c.args.files.now) (at c.load_index.new.files) (at c.read_indexes.new.files) (at c.reach.new.files)
-          (g.D.Dial.state c.args.dial.now) p c.in-Err.outcome (listed.ok, listed.kept, listed.used) ((rw c.as_slice.ensures at read.ok, read.few), read.kept, rw c.as_slice.ensures at read.used) refused;
+          (g.D.Dial.state c.args.dial.now) (g.D.Dial.state c.load_index.new.dial) p c.in-Err.outcome listed.ends ((rw c.as_slice.ensures at read.ok, read.few), read.kept, rw c.as_slice.ensures at read.used) refused;
     }
 
 pub returns-then-in_place : goal.returns-then-in_place
@@ -117,7 +117,8 @@ returns-then-in_place g c =
     let held = c.in-Ok-reach.held in
     let m = disk_with g.F.Folder.Look held (at c.reach.new.files) in
     let e = at c.assemble_into.new.files in
-    let k = g.D.Dial.state c.args.dial.now in
+    let i = g.D.Dial.state c.args.dial.now in
+    let k = g.D.Dial.state c.load_index.new.dial in
     let j = g.D.Dial.state c.assemble_into.new.dial in
     let ls = c.in_ok-indexes.indexes.items in
     let l = c.in_ok-listed.listed in
@@ -137,9 +138,9 @@ returns-then-in_place g c =
           let seeded = subst (λ ss. ended (stores_of g.F.Look.Look held) held.cache ss words.target l) c.in-Ok.ensures.seeds indexed in
           let cached = subst (λ cache. ended (stores_of g.F.Look.Look held) cache words.seeds words.target l) over.named seeded in
           let into : ended words.stores words.cache words.seeds words.target l = subst (λ n. ended n words.cache words.seeds words.target l) located cached in
-          subst (λ place. ExtractEnds (never_fail g.F.Target.View.never_fails g.F.Folder.Look.never_fails) words.stores words.cache words.seeds place words.index words.target (world d k p) c.assemble_into.result (world e j p)) (sym c.if-in_place.true)
-          (ends_with (never_fail g.F.Target.View.never_fails g.F.Folder.Look.never_fails) words.stores words.cache words.seeds true words.index words.target l ls d (at c.load_index.new.files) (at c.read_indexes.new.files) m e k j p c.assemble_into.result
-          (listed.ok, listed.kept, listed.used) ((rw c.as_slice.ensures at read.ok, read.few), read.kept, rw c.as_slice.ensures at read.used) reached into);
+          subst (λ place. ExtractEnds (never_fail g.F.Target.View.never_fails g.F.Folder.Look.never_fails) words.stores words.cache words.seeds place words.index words.target (world d i p) c.assemble_into.result (world e j p)) (sym c.if-in_place.true)
+          (ends_with (never_fail g.F.Target.View.never_fails g.F.Folder.Look.never_fails) words.stores words.cache words.seeds true words.index words.target l ls d (at c.load_index.new.files) (at c.read_indexes.new.files) m e i k j p c.assemble_into.result
+          listed.ends ((rw c.as_slice.ensures at read.ok, read.few), read.kept, rw c.as_slice.ensures at read.used) reached into);
     }
 
 pub returns-else-in_place : goal.returns-else-in_place
@@ -150,7 +151,8 @@ returns-else-in_place g c =
     let held = c.in-Ok-reach.held in
     let m = disk_with g.F.Folder.Look held (at c.reach.new.files) in
     let e = at c.assemble_beside.new.files in
-    let k = g.D.Dial.state c.args.dial.now in
+    let i = g.D.Dial.state c.args.dial.now in
+    let k = g.D.Dial.state c.load_index.new.dial in
     let j = g.D.Dial.state c.assemble_beside.new.dial in
     let ls = c.in_ok-indexes.indexes.items in
     let l = c.in_ok-listed.listed in
@@ -168,7 +170,7 @@ returns-else-in_place g c =
           let seeded = subst (λ ss. ended (stores_of g.F.Look.Look held) held.cache ss l) c.in-Ok.ensures.seeds indexed in
           let cached = subst (λ cache. ended (stores_of g.F.Look.Look held) cache words.seeds l) over.named seeded in
           let into : ended words.stores words.cache words.seeds l = subst (λ n. ended n words.cache words.seeds l) located cached in
-          subst (λ place. ExtractEnds (never_fail g.F.Target.View.never_fails g.F.Folder.Look.never_fails) words.stores words.cache words.seeds place words.index words.target (world d k p) c.assemble_beside.result (world e j p)) (sym c.if-in_place.false)
-          (ends_with (never_fail g.F.Target.View.never_fails g.F.Folder.Look.never_fails) words.stores words.cache words.seeds false words.index words.target l ls d (at c.load_index.new.files) (at c.read_indexes.new.files) m e k j p c.assemble_beside.result
-          (listed.ok, listed.kept, listed.used) ((rw c.as_slice.ensures at read.ok, read.few), read.kept, rw c.as_slice.ensures at read.used) reached into);
+          subst (λ place. ExtractEnds (never_fail g.F.Target.View.never_fails g.F.Folder.Look.never_fails) words.stores words.cache words.seeds place words.index words.target (world d i p) c.assemble_beside.result (world e j p)) (sym c.if-in_place.false)
+          (ends_with (never_fail g.F.Target.View.never_fails g.F.Folder.Look.never_fails) words.stores words.cache words.seeds false words.index words.target l ls d (at c.load_index.new.files) (at c.read_indexes.new.files) m e i k j p c.assemble_beside.result
+          listed.ends ((rw c.as_slice.ensures at read.ok, read.few), read.kept, rw c.as_slice.ensures at read.used) reached into);
     }

@@ -54,7 +54,7 @@ returns-in-Err g c =
     let gone = c.end_image.ensures in
     let used = subst (λ (n : List ℕ). Uses (n ∷ []) [] d e) view.fresh.1 gone.used in
     let taken = taken_longer (c.args.words.image ∷ []) c.args.words.store b d e c.in-Err.outcome c.in-Err.ensures.err gone.kept used in
-    record { ends = λ o. inr (record { disk = _; dial = _; out = _; gave = c.in_ok-listed.listed; did = ((listed.ok, listed.kept, listed.used), refl, refl); then = inr (record { disk = _; dial = _; out = _; gave = _; did = ((view.ok, view.kept, view.used), refl, refl); then = inl (taken, refl, refl) }) }) }
+    record { ends = λ o. inr (record { disk = _; dial = _; out = _; gave = c.in_ok-listed.listed; did = (listed.ends, refl); then = inr (record { disk = _; dial = _; out = _; gave = _; did = ((view.ok, view.kept, view.used), refl, refl); then = inl (taken, refl, refl) }) }) }
 
 pub returns : goal.returns
 returns g c =
@@ -75,7 +75,7 @@ returns g c =
     let b = at c.open_for.new.files in
     let d = at c.take_source.new.files in
     let e = at c.give_source.new.files in
-    let k = state c.args.dial.now in
+    let k = state c.load_index.new.dial in
     let j = state c.give_source.new.dial in
     let w = storage d k in
     let v = storage e j in
@@ -103,6 +103,6 @@ returns g c =
     (λ k says. back files place faults state w v store old new done.place took.located gave.folders gave.given (λ f g. f ≡ f) (SaysBefore l k) (says_before l k) done.tells (if_told (source_files files old) (source_files files new)) says)
     (λ k asks. gets_to place state l (k + 1) old new store w.dial.ended v.dial.ended took.unused there asks done.queries give.ended (k + 1) (λ q. omega arith))) in
     rw c.answer_of.ensures (record {
-      ends = λ o. chop_ends store c.args.words.index q l told (source_files files old) k j o (at c.args.files.now) (at c.load_index.new.files) b d e _ (listed.ok, listed.kept, listed.used) (view.ok, view.kept, view.used)
+      ends = λ o. chop_ends store c.args.words.index q l told (source_files files old) (state c.args.dial.now) k j o (at c.args.files.now) (at c.load_index.new.files) b d e _ listed.ends (view.ok, view.kept, view.used)
           (taken_beside [] (q ∷ []) store b d _ (within_none (q ∷ [])) took.ok) chopped;
     })

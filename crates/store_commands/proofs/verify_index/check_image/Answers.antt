@@ -16,7 +16,7 @@ returns-in_err-check_opened g c =
     let check = c.in_err-check_opened.ensures in
     let at = g.F.Files.disk in
     let checked = subst (λ (n : List ℕ). ImageChecked n c.in_ok-listed.listed (g.F.View.View.held c.in_ok-opened.opened.first).bytes (at c.open_for.new.files) (Err c.in_err-check_opened.field-0.0) (at c.check_opened.new.files)) view.fresh.1 (check.checked, check.kept) in
-    record { ends = λ k o. rw (p.1, p.2) (inr (record { disk = _; dial = _; out = _; gave = c.in_ok-listed.listed; did = ((listed.ok, listed.kept, listed.used), refl, refl); then = inr (record { disk = _; dial = _; out = _; gave = _; did = ((view.ok, view.kept, view.used), refl, refl); then = (checked, refl, refl) }) })) }
+    record { ends = λ o. rw (p.1, p.2) (inr (record { disk = _; dial = _; out = _; gave = c.in_ok-listed.listed; did = (listed.ends, refl); then = inr (record { disk = _; dial = _; out = _; gave = _; did = ((view.ok, view.kept, view.used), refl, refl); then = (checked, refl, refl) }) })) }
 
 pub returns : goal.returns
 returns g c =
@@ -25,4 +25,4 @@ returns g c =
     let check = c.in_ok-check_opened.ensures in
     let at = g.F.Files.disk in
     let checked = subst (λ (n : List ℕ). ImageChecked n c.in_ok-listed.listed (g.F.View.View.held c.in_ok-opened.opened.first).bytes (at c.open_for.new.files) (Ok tt) (at c.check_opened.new.files)) view.fresh.1 (check.checked, check.kept) in
-    record { ends = λ k o. record { disk = _; dial = _; out = _; gave = c.in_ok-listed.listed; did = ((listed.ok, listed.kept, listed.used), refl, refl); then = record { disk = _; dial = _; out = _; gave = _; did = ((view.ok, view.kept, view.used), refl, refl); then = (checked, refl, refl) } } }
+    record { ends = λ o. record { disk = _; dial = _; out = _; gave = c.in_ok-listed.listed; did = (listed.ends, refl); then = record { disk = _; dial = _; out = _; gave = _; did = ((view.ok, view.kept, view.used), refl, refl); then = (checked, refl, refl) } } }

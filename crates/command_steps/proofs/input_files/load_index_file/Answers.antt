@@ -4,7 +4,7 @@ use Rattle.caibx_codec.specs.Listing.{Listing}
 use Rattle.caibx_codec.specs.declared.reading.ViewFault.{ViewFault}
 use Rattle.caibx_codec.specs.declared.reading.ViewFault.TheVariants as viewed
 use Rattle.command_steps.proofs.IndexFiles.{bad, listed}
-use Rattle.command_steps.proofs.input_files.load_index.Goals as goal
+use Rattle.command_steps.proofs.input_files.load_index_file.Goals as goal
 use Rattle.dsy_base.specs.Files.{OpenGives}
 
 pub returns-in-Ok-read-clause-ok : goal.returns-in-Ok-read-clause-ok

@@ -1,0 +1,5 @@
+pub mod Got
+pub mod InOrder
+pub mod Spelled
+pub mod AllGot
+pub mod Fair

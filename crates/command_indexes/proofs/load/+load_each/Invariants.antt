@@ -1,0 +1,5 @@
+use Rattle.std.proofs.Common.{length}
+use Rattle.command_indexes.proofs.load.+load_each.Given as goal
+
+abbrev pub decreases-load_each : goal.decreases-load_each
+decreases-load_each g l = length l.names.now
