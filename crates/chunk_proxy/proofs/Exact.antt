@@ -3,7 +3,7 @@ use Rattle.std.proofs.Common.{◌≡◌, ℕ, ◌+◌, ◌<◌, ◌^◌, ◌≤�
 use Rattle.std.specs.Prelude.{IfSome}
 use Rattle.chunk_proxy.specs.Answers.{in_cache, in_stores, proxy_after, sought}
 use Rattle.chunk_proxy.specs.States.{ProxyFiles}
-use Rattle.chunk_proxy.specs.Talks.{ProxyTalk, miss, misses, one_where_none, proxy_answering, proxy_protocol}
+use Rattle.chunk_proxy.specs.Talks.{ProxyTalk, TalksExactly, miss, misses, one_where_none, proxy_answering, proxy_protocol}
 use Rattle.chunk_server.specs.Requests.{Asked, closes_behind}
 use Rattle.chunk_store.specs.declared.id.DigestKind.{DigestKind}
 use Rattle.dsy_base.specs.Counts.{Quiet, raised}
@@ -38,7 +38,7 @@ module _ (kind : DigestKind) (maps : List (Map (List ℕ))) where
       let rest : (files_left (proxy_answering kind maps) g more).asks ≡ g.asks + misses kind maps g more = asks_left g more (omega (arith, less, one)) in
       omega (arith, one, rest)
 
-  pub talk_exact : (t u : Traffic) (old new : ServedState ProxyFiles) (files : ProxyFiles) → Served (proxy_protocol kind maps) t old u new → old.files ≡ Some files → Quiet old.faults new.faults
+  talk_exact : (t u : Traffic) (old new : ServedState ProxyFiles) (files : ProxyFiles) → Served (proxy_protocol kind maps) t old u new → old.files ≡ Some files → Quiet old.faults new.faults
       → (sent : List ℕ) × (left : ProxyFiles) × ProxyTalk kind maps t.coming files sent left × (u.sent ≡ t.sent ++ sent) × (new.files ≡ Some left)
   talk_exact t u old new files served is quiet =
       let v = proxy_answering kind maps in
@@ -60,3 +60,17 @@ module _ (kind : DigestKind) (maps : List (Map (List ℕ))) where
         goes.sent ∙ ap (λ ts. t.sent ++ replies closes_behind ts) so.0,
         so.1,
       )
+
+  pub talks_so : (t u : Traffic) (old new : ServedState ProxyFiles) → Served (proxy_protocol kind maps) t old u new → Quiet old.faults new.faults → TalksExactly kind maps t old u new
+  talks_so t u old new served quiet = go old.files refl where
+    go : (o : Option ProxyFiles) → old.files ≡ o
+        → IfSome o (λ files. (sent : List ℕ) × (left : ProxyFiles) × ProxyTalk kind maps t.coming files sent left × (u.sent ≡ t.sent ++ sent) × (new.files ≡ Some left))
+    go None is = tt
+    go (Some files) is = talk_exact t u old new files served is quiet
+
+  -- the same of a connection that tells what comes
+  pub closes_so : (old new : ServedState ProxyFiles) (o p : Option Traffic) → Quiet old.faults new.faults → IfSome o (λ t. IfSome p (λ u. Served (proxy_protocol kind maps) t old u new))
+      → IfSome o (λ t. IfSome p (λ u. TalksExactly kind maps t old u new))
+  closes_so old new None p quiet h = tt
+  closes_so old new (Some t) None quiet h = tt
+  closes_so old new (Some t) (Some u) quiet h = talks_so t u old new h quiet

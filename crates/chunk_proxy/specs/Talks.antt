@@ -1,10 +1,12 @@
 -- A connection to a cache before stores as a whole.
-use Rattle.std.specs.Prelude.{◌≡◌, ℕ, ◌+◌, ◌<◌, ◌^◌, List, [], ◌∷◌, false, Option, Some, None}
+use Rattle.std.specs.Prelude.{◌≡◌, ℕ, ◌+◌, ◌<◌, ◌^◌, List, [], ◌∷◌, ◌++◌, false, Option, Some, None, IfSome}
 use Rattle.chunk_server.specs.Requests.{AreRequests, Asked, IsOver, closes_behind, reading}
 use Rattle.chunk_server.specs.Turns.{replies}
 use Rattle.chunk_store.specs.declared.id.DigestKind.{DigestKind}
+use Rattle.dsy_base.specs.Links.{Traffic}
 use Rattle.dsy_base.specs.Maps.{Map}
 use Rattle.http_serve.specs.Protocols.{Answering, Protocol}
+use Rattle.http_serve.specs.Steps.{ServedState}
 use Rattle.http_serve.specs.Turns.{files_left, turns_of}
 use Rattle.http_wire.specs.declared.request.Act.{Act}
 use Rattle.http_wire.specs.declared.request.Act.TheVariants as act
@@ -58,3 +60,9 @@ pub record ProxyTalk (kind : DigestKind) (maps : List (Map (List ℕ))) (b : Lis
   pub answers : sent ≡ replies (turns_of (proxy_answering kind maps) files asked)
   pub leaves : left ≡ files_left (proxy_answering kind maps) files asked
   pub asks : files.asks + misses kind maps files asked < 2 ^ 64 → left.asks ≡ files.asks + misses kind maps files asked
+
+-- exactly the bytes of the talk were sent on a connection, and what is held is what the talk leaves, where that is told
+abbrev pub TalksExactly : DigestKind → List (Map (List ℕ)) → Traffic → ServedState ProxyFiles → Traffic
+    → ServedState ProxyFiles → Type 0
+TalksExactly kind maps t old u new = IfSome old.files (λ files. (sent : List ℕ) × (left : ProxyFiles)
+    × ProxyTalk kind maps t.coming files sent left × (u.sent ≡ t.sent ++ sent) × (new.files ≡ Some left))

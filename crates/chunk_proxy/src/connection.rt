@@ -1,9 +1,9 @@
 //! A connection to a cache before stores is served to its end.
 
-ghost use Rattle.std.specs.Prelude.{◌≡◌, ◌≤◌, ◌++◌, map, IfSome};
+ghost use Rattle.std.specs.Prelude.{◌≡◌, ◌≤◌, map, IfSome};
 ghost use Rattle.dsy_base.specs.Counts.{Rose};
 ghost use Rattle.chunk_proxy.specs.States.{maps_in, proxy_state};
-ghost use Rattle.chunk_proxy.specs.Talks.{proxy_protocol};
+ghost use Rattle.chunk_proxy.specs.Talks.{TalksExactly, proxy_protocol};
 ghost use Rattle.http_serve.specs.Streams.{given_in};
 ghost use Rattle.http_serve.specs.Turns.{Cut, Lacking, Served as ServedWhole};
 
@@ -28,6 +28,12 @@ pub fn serve_proxy_connection<K: Link, F: Folder, S: Store>(
         (λ u. ServedWhole (proxy_protocol state.old.chain.kind (maps_in S.Store state.old))
         t (proxy_state F.files F.never_fails S.Store state.old)
         u (proxy_state F.files F.never_fails S.Store state.new))) }
+    // Where the cache and the stores tell what they hold, and never fail.
+    ensures exactly { result ≡ Served.Closed → IfSome (K.state link.old).traffic (λ t.
+        IfSome (K.state link.new).traffic (λ u. TalksExactly state.old.chain.kind (maps_in S.Store state.old)
+        t (proxy_state F.files F.never_fails S.Store state.old)
+        u (proxy_state F.files F.never_fails S.Store state.new))) }
+
     ensures cut { result ≡ Served.LinkFault → IfSome (K.state link.old).traffic (λ t. IfSome (K.state link.new).traffic
         (λ u. Cut (proxy_protocol state.old.chain.kind (maps_in S.Store state.old))
         t (proxy_state F.files F.never_fails S.Store state.old)

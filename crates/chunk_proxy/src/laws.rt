@@ -1,9 +1,9 @@
 //! Laws of connections to a cache before stores, for the crates above. Nothing is done: each function's contract is the
 //! law.
 
-ghost use Rattle.std.specs.Prelude.{◌≡◌, ℕ, ◌++◌, List, Some};
+ghost use Rattle.std.specs.Prelude.{ℕ, List};
 ghost use Rattle.chunk_proxy.specs.States.{ProxyFiles};
-ghost use Rattle.chunk_proxy.specs.Talks.{ProxyTalk, proxy_protocol};
+ghost use Rattle.chunk_proxy.specs.Talks.{TalksExactly, proxy_protocol};
 ghost use Rattle.chunk_store.specs.declared.id.DigestKind.{DigestKind};
 ghost use Rattle.dsy_base.specs.Counts.{Quiet};
 ghost use Rattle.dsy_base.specs.Links.{Traffic};
@@ -15,8 +15,6 @@ ghost use Rattle.http_serve.specs.Turns.{Served};
 /// stores give, and what is left is what its requests leave.
 pub fn talks_are_exact()
     ensures value { (kind : DigestKind) (maps : List (Map (List ℕ))) (t u : Traffic) (old new : ServedState ProxyFiles)
-        (files : ProxyFiles) → Served (proxy_protocol kind maps) t old u new → old.files ≡ Some files
-        → Quiet old.faults new.faults
-        → (sent : List ℕ) × (left : ProxyFiles) × ProxyTalk kind maps t.coming files sent left
-        × (u.sent ≡ t.sent ++ sent) × (new.files ≡ Some left) }
+        → Served (proxy_protocol kind maps) t old u new → Quiet old.faults new.faults
+        → TalksExactly kind maps t old u new }
 {}
