@@ -1,5 +1,5 @@
 -- How a chunk that is asked for is obtained, and what the reply tells of it.
-use Rattle.std.specs.Prelude.{◌≡◌, ◌≢◌, ℕ, ◌⊎◌, List, take, Option, Some, None, IfOk, Result, Ok, Err}
+use Rattle.std.specs.Prelude.{◌≡◌, ◌≢◌, ℕ, ◌≤◌, ◌⊎◌, List, length, take, Option, Some, None, IfOk, Result, Ok, Err}
 use Rattle.cache_store.specs.Through.{Behind, FromShelf, FromStores}
 use Rattle.cache_store.specs.declared.cached.Got.{Got}
 use Rattle.cache_store.specs.declared.cached.Kept.TheVariants as kept
@@ -8,6 +8,7 @@ use Rattle.chunk_server.specs.Answers.{Answer, bare}
 use Rattle.chunk_server.specs.Reads.{answer_by}
 use Rattle.chunk_server.specs.declared.chunk_file.ReadMethod.{ReadMethod}
 use Rattle.chunk_server.specs.declared.chunk_file.ReadMethod.TheVariants as method
+use Rattle.chunk_store.specs.Names.{name_of}
 use Rattle.chunk_store.specs.declared.id.ChunkId.{ChunkId}
 use Rattle.chunk_store.specs.declared.id.DigestKind.{DigestKind}
 use Rattle.chunk_store.specs.declared.store.Store.{Ghosts as StoreWords}
@@ -22,6 +23,11 @@ use Rattle.store_chain.specs.declared.refused.Refused.TheVariants as refused
 -- the chunk of this id is wanted, of any size up to 64 MiB
 abbrev pub any_size : DigestKind → ChunkId → Query
 any_size kind id = query_of kind id None size_limit
+
+-- the bytes have this name, and are at most 64 MiB
+pub record IsRightChunk (kind : DigestKind) (id b : List ℕ) : Type 0 where
+  pub named : name_of kind b ≡ id
+  pub few : length b ≤ size_limit
 
 -- what the reply tells of what was obtained: the chunk, that there is none, or that a store has failed. For want of
 -- memory no reply is sent

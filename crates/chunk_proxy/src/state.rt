@@ -1,8 +1,9 @@
 //! A cache before stores that answers requests for chunks. Sizes are in bytes.
 
 ghost use Rattle.std.specs.Prelude.{◌≡◌, ◌≤◌, length, map, false, None, IfOk, IfSome, OnErr};
+ghost use Rattle.cache_store.specs.Shelves.{Stocks, shelf_of};
 ghost use Rattle.chunk_proxy.specs.Answers.{AnswersThrough, IsProxyAnswer, LacksThrough};
-ghost use Rattle.chunk_proxy.specs.Obtaining.{RepliesSo};
+ghost use Rattle.chunk_proxy.specs.Obtaining.{IsRightChunk, RepliesSo};
 ghost use Rattle.chunk_proxy.specs.States.{maps_in, proxy_state};
 ghost use Rattle.http_serve.specs.Answers.{answer_in};
 ghost use Rattle.http_wire.specs.Request.{is_refusal};
@@ -76,6 +77,10 @@ impl<F: Folder, S: Store> ProxyState<F, S> {
             LacksThrough self.old.chain.kind (maps_in S.Store self.old)
             (proxy_state F.files F.never_fails S.Store self.old) act.now
             (proxy_state F.files F.never_fails S.Store self.new))) }
+
+        // Under each id the cache holds what it held, or right bytes, whatever fails. Files of other names stay.
+        ensures stocks { Stocks (IsRightChunk self.old.chain.kind) (shelf_of F.files F.place F.faults self.old.shelf)
+            (shelf_of F.files F.place F.faults self.new.shelf) }
 
         ensures stores { map S.holds self.new.chain.stores ≡ map S.holds self.old.chain.stores }
         ensures place { F.place self.new.shelf.folder ≡ F.place self.old.shelf.folder }
