@@ -34,7 +34,8 @@ const GET: &[u8] =
 const HEAD: &[u8] =
     b"HEAD /5304/53048e2681941ef99b2e29b76b4c7dabe4c2d0c634fc6d46e0e2f13107e7af23 HTTP/1.1\r\n\r\n";
 
-const PUT: &[u8] = b"PUT /5304/53048e2681941ef99b2e29b76b4c7dabe4c2d0c634fc6d46e0e2f13107e7af23 HTTP/1.1\r\nContent-Length: 3\r\n\r\nabc";
+const PUT: &[u8] =
+    b"PUT /5304/53048e2681941ef99b2e29b76b4c7dabe4c2d0c634fc6d46e0e2f13107e7af23 HTTP/1.1\r\nContent-Length: 3\r\n\r\nabc";
 
 const OK_ABC: &[u8] = b"HTTP/1.1 200 OK\r\nContent-Length: 3\r\n\r\nabc";
 
@@ -111,12 +112,7 @@ fn is_sent<S: Store>(
 }
 
 // What the cache's file of `abc` holds, if it is `abc`, and how often the stores were asked.
-fn is_left<S: Store>(
-    rt: &impl Abort,
-    proxy: ProxyState<MemFolder, S>,
-    holds_abc: bool,
-    asks: u64,
-) {
+fn is_left<S: Store>(rt: &impl Abort, proxy: ProxyState<MemFolder, S>, holds_abc: bool, asks: u64) {
     let (cache, chain) = proxy.into_inner().into_parts();
     let mut folder = cache.into_inner();
     let mut out = [0u8; 8];
