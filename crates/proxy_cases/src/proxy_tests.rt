@@ -64,24 +64,32 @@ fn cache_of(rt: &impl Abort, alloc: Global, held: Option<&[u8]>) -> CacheShelf<M
 }
 
 // A store that holds these bytes as `abc`, if any.
-fn store_of(rt: &impl Abort, alloc: Global, held: Option<&[u8]>) -> MemStore {
+fn chain_of(rt: &impl Abort, alloc: Global, held: Option<&[u8]>) -> Chain<MemStore>
+    ensures { result.kind ≡ kinds.Sha512T256 }
+{
     let mut store = MemStore::new(alloc);
     if let Some(b) = held {
         ok(rt, store.put(&id_of(rt), b));
     }
-    store
+    Chain::new(ok(rt, vec![in alloc; store]))
+}
+
+// A store that fails whatever it is asked.
+fn failing_chain(rt: &impl Abort, alloc: Global) -> Chain<ScriptedStore>
+    ensures { result.kind ≡ kinds.Sha512T256 }
+{
+    let store = ScriptedStore::new(alloc, Refuses::Everything(IoFault::Failed));
+    Chain::new(ok(rt, vec![in alloc; store]))
 }
 
 // This cache before this store.
 fn proxy_of<S: Store>(
-    rt: &impl Abort,
     alloc: Global,
     cache: CacheShelf<MemFolder>,
-    store: S,
+    chain: Chain<S>,
 ) -> ProxyState<MemFolder, S>
-    requires { cache.kind ≡ kinds.Sha512T256 }
+    requires { cache.kind ≡ chain.kind }
 {
-    let chain = Chain::new(ok(rt, vec![in alloc; store]));
     ProxyState::new(alloc, Cached::new(cache, chain))
 }
 
@@ -128,8 +136,8 @@ fn is_left<S: Store>(rt: &impl Abort, proxy: ProxyState<MemFolder, S>, holds_abc
 #[test]
 fn a_chunk_of_a_store_is_sent_and_kept(rt: HostRuntime) {
     let alloc = rt.alloc();
-    let store = store_of(&rt, alloc, Some(b"abc"));
-    let mut proxy = proxy_of(&rt, alloc, cache_of(&rt, alloc, None), store);
+    let chain = chain_of(&rt, alloc, Some(b"abc"));
+    let mut proxy = proxy_of(alloc, cache_of(&rt, alloc, None), chain);
     is_sent(&rt, alloc, &mut proxy, [GET, GET], [OK_ABC, OK_ABC]);
     is_left(&rt, proxy, true, 1);
 }
@@ -137,8 +145,8 @@ fn a_chunk_of_a_store_is_sent_and_kept(rt: HostRuntime) {
 #[test]
 fn a_head_is_told_the_length_and_keeps_the_chunk(rt: HostRuntime) {
     let alloc = rt.alloc();
-    let store = store_of(&rt, alloc, Some(b"abc"));
-    let mut proxy = proxy_of(&rt, alloc, cache_of(&rt, alloc, None), store);
+    let chain = chain_of(&rt, alloc, Some(b"abc"));
+    let mut proxy = proxy_of(alloc, cache_of(&rt, alloc, None), chain);
     is_sent(&rt, alloc, &mut proxy, [HEAD, GET], [OK_3, OK_ABC]);
     is_left(&rt, proxy, true, 1);
 }
@@ -146,8 +154,8 @@ fn a_head_is_told_the_length_and_keeps_the_chunk(rt: HostRuntime) {
 #[test]
 fn a_wrong_chunk_of_the_cache_is_not_sent_and_is_replaced(rt: HostRuntime) {
     let alloc = rt.alloc();
-    let store = store_of(&rt, alloc, Some(b"abc"));
-    let mut proxy = proxy_of(&rt, alloc, cache_of(&rt, alloc, Some(b"abX")), store);
+    let chain = chain_of(&rt, alloc, Some(b"abc"));
+    let mut proxy = proxy_of(alloc, cache_of(&rt, alloc, Some(b"abX")), chain);
     is_sent(&rt, alloc, &mut proxy, [GET, b""], [OK_ABC, b""]);
     is_left(&rt, proxy, true, 1);
 }
@@ -155,8 +163,8 @@ fn a_wrong_chunk_of_the_cache_is_not_sent_and_is_replaced(rt: HostRuntime) {
 #[test]
 fn a_chunk_that_nobody_has_is_not_found(rt: HostRuntime) {
     let alloc = rt.alloc();
-    let store = store_of(&rt, alloc, None);
-    let mut proxy = proxy_of(&rt, alloc, cache_of(&rt, alloc, None), store);
+    let chain = chain_of(&rt, alloc, None);
+    let mut proxy = proxy_of(alloc, cache_of(&rt, alloc, None), chain);
     is_sent(&rt, alloc, &mut proxy, [GET, HEAD], [NOT_FOUND, NOT_FOUND]);
     is_left(&rt, proxy, false, 2);
 }
@@ -164,8 +172,8 @@ fn a_chunk_that_nobody_has_is_not_found(rt: HostRuntime) {
 #[test]
 fn a_store_that_fails_is_told(rt: HostRuntime) {
     let alloc = rt.alloc();
-    let store = ScriptedStore::new(alloc, Refuses::Everything(IoFault::Failed));
-    let mut proxy = proxy_of(&rt, alloc, cache_of(&rt, alloc, None), store);
+    let chain = failing_chain(&rt, alloc);
+    let mut proxy = proxy_of(alloc, cache_of(&rt, alloc, None), chain);
     is_sent(&rt, alloc, &mut proxy, [GET, b""], [FAILED, b""]);
     is_left(&rt, proxy, false, 1);
 }
@@ -173,8 +181,8 @@ fn a_store_that_fails_is_told(rt: HostRuntime) {
 #[test]
 fn a_put_is_not_taken(rt: HostRuntime) {
     let alloc = rt.alloc();
-    let store = store_of(&rt, alloc, None);
-    let mut proxy = proxy_of(&rt, alloc, cache_of(&rt, alloc, None), store);
+    let chain = chain_of(&rt, alloc, None);
+    let mut proxy = proxy_of(alloc, cache_of(&rt, alloc, None), chain);
     is_sent(&rt, alloc, &mut proxy, [PUT, GET], [NOT_TAKEN, b""]);
     is_left(&rt, proxy, false, 0);
 }
@@ -184,8 +192,8 @@ fn a_cache_that_fails_is_passed_over(rt: HostRuntime) {
     let alloc = rt.alloc();
     let fails = ok(&rt, vec![in alloc; 0u64, 1]);
     let cache = CacheShelf::new(MemFolder::new(alloc, fails));
-    let store = store_of(&rt, alloc, Some(b"abc"));
-    let mut proxy = proxy_of(&rt, alloc, cache, store);
+    let chain = chain_of(&rt, alloc, Some(b"abc"));
+    let mut proxy = proxy_of(alloc, cache, chain);
     is_sent(&rt, alloc, &mut proxy, [GET, b""], [OK_ABC, b""]);
     is_left(&rt, proxy, false, 1);
 }
