@@ -1,12 +1,12 @@
 -- Where no fault is counted, a connection is that of the cache and the stores.
-use Rattle.std.proofs.Common.{◌≡◌, ℕ, ◌+◌, ◌<◌, ◌^◌, ◌≤◌, min, List, [], ◌∷◌, ◌++◌, map, Option, Some, None, refl, sym, ap, subst, ◌∙◌, arith}
+use Rattle.std.proofs.Common.{◌≡◌, ℕ, ◌+◌, ◌<◌, ◌^◌, List, [], ◌∷◌, ◌++◌, map, Option, Some, None, refl, ap, subst, ◌∙◌, arith}
 use Rattle.std.specs.Prelude.{IfSome}
 use Rattle.chunk_proxy.specs.Answers.{in_cache, in_stores, proxy_after, sought}
 use Rattle.chunk_proxy.specs.States.{ProxyFiles}
 use Rattle.chunk_proxy.specs.Talks.{ProxyTalk, TalksExactly, miss, misses, one_where_none, proxy_answering, proxy_protocol}
 use Rattle.chunk_server.specs.Requests.{Asked, closes_behind}
 use Rattle.chunk_store.specs.declared.id.DigestKind.{DigestKind}
-use Rattle.dsy_base.specs.Counts.{Quiet, raised}
+use Rattle.dsy_base.specs.Counts.{Quiet}
 use Rattle.dsy_base.specs.Links.{Traffic}
 use Rattle.dsy_base.specs.Maps.{Map}
 use Rattle.http_serve.proofs.Exact.{exact}

@@ -1,5 +1,5 @@
 -- The steps of a cache before stores, by how a chunk was obtained.
-use Rattle.std.proofs.Common.{◌≡◌, ◌≢◌, ◌⊎◌, ℕ, List, length, map, take, Bool, true, false, not, ◌||◌, nat_le, Option, Some, None, IsSome, IsTrue, Result, Ok, Err, refl, sym, ap, subst, ◌∙◌, inl, inr, arith}
+use Rattle.std.proofs.Common.{◌≡◌, ◌≢◌, ℕ, List, length, map, take, Bool, true, false, not, ◌||◌, nat_le, Option, Some, None, IsSome, IsTrue, Result, Ok, Err, refl, sym, ap, subst, ◌∙◌, inl, inr, arith}
 use Rattle.std.specs.Prelude.{IfOk, IfSome}
 use Rattle.std.specs.Option.{option_map}
 use Rattle.cache_store.specs.Shelves.{Shelf, shelf_of}
@@ -12,7 +12,7 @@ use Rattle.chunk_proxy.proofs.Stepped.{Stayed, Went, lingers, steps, told}
 use Rattle.chunk_proxy.proofs.Sure.{Parts, all_quiet, alone, few, no_rise, parts, told_each}
 use Rattle.chunk_proxy.specs.Answers.{AnswersThrough, LacksThrough, chunk_given, first_of, in_cache, in_stores, proxy_after, proxy_answer, sought}
 use Rattle.chunk_proxy.specs.Obtaining.{ObtainsSo, SeeksChunk, TellsChunk, TellsOf, any_size}
-use Rattle.chunk_proxy.specs.States.{ProxyFiles, is_sure, maps_in, proxy_state, told_files, told_of}
+use Rattle.chunk_proxy.specs.States.{ProxyFiles, is_sure, maps_in, proxy_state, told_files}
 use Rattle.chunk_server.proofs.Stepped.{none_by}
 use Rattle.chunk_server.specs.Answers.{Answer, bare, with_chunk, with_length}
 use Rattle.chunk_server.specs.Reads.{answer_by, asked_by}
@@ -26,7 +26,7 @@ use Rattle.chunk_store.specs.declared.id.DigestKind.{DigestKind}
 use Rattle.chunk_store.specs.declared.store.Store.{Ghosts as StoreWords}
 use Rattle.dir_store.specs.Names.{is_temporary}
 use Rattle.dsy_base.proofs.Counts.{at_other}
-use Rattle.dsy_base.specs.Counts.{Rose, raised}
+use Rattle.dsy_base.specs.Counts.{Rose}
 use Rattle.dsy_base.specs.Folders.{put_in, temporary_of}
 use Rattle.dsy_base.specs.Maps.{Map, at_name}
 use Rattle.http_serve.specs.Steps.{ServedState}

@@ -1,8 +1,8 @@
 -- What is known where all tell what they hold, and none fails.
-use Rattle.std.proofs.Common.{◌≡◌, ℕ, zero, suc, ◌≤◌, List, [], ◌∷◌, length, map, slice_index, Bool, true, false, not, ◌&&◌, ◌||◌, nat_le, Option, Some, None, IsSome, IsTrue, refl, ap, ◌∙◌, inl, inr, arith}
+use Rattle.std.proofs.Common.{◌≡◌, ℕ, zero, suc, ◌≤◌, List, [], ◌∷◌, length, map, slice_index, Bool, true, false, not, ◌&&◌, ◌||◌, nat_le, Option, Some, None, IsSome, IsTrue, refl, ap, inl, inr, arith}
 use Rattle.chunk_proxy.proofs.Held.{at_most}
 use Rattle.chunk_proxy.specs.States.{told_of}
-use Rattle.dsy_base.specs.Counts.{Quiet, Rose}
+use Rattle.dsy_base.specs.Counts.{Rose}
 use Rattle.dsy_base.specs.Maps.{Map}
 use Rattle.store_chain.specs.Faults.{EachQuiet}
 

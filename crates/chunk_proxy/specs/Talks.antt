@@ -1,6 +1,6 @@
 -- A connection to a cache before stores as a whole.
 use Rattle.std.specs.Prelude.{◌≡◌, ℕ, ◌+◌, ◌<◌, ◌^◌, List, [], ◌∷◌, ◌++◌, false, Option, Some, None, IfSome}
-use Rattle.chunk_server.specs.Requests.{AreRequests, Asked, IsOver, closes_behind, reading}
+use Rattle.chunk_server.specs.Requests.{AreRequests, Asked, IsOver, reading}
 use Rattle.chunk_server.specs.Turns.{replies}
 use Rattle.chunk_store.specs.declared.id.DigestKind.{DigestKind}
 use Rattle.dsy_base.specs.Links.{Traffic}

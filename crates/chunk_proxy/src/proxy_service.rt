@@ -36,9 +36,9 @@ impl<F: Folder, S: Store> Service for ProxyService<F, S> {
     ghost state = { λ s. proxy_state F.files F.never_fails S.Store s };
 
     ghost setting = { λ s. record {
-        kind = s.chain.kind;
-        place = F.place s.shelf.folder;
-        holds = map S.holds s.chain.stores;
+      kind = s.chain.kind;
+      place = F.place s.shelf.folder;
+      holds = map S.holds s.chain.stores;
     } };
 
     ghost protocol = { λ x. proxy_protocol x.kind (told_of x.holds) };
@@ -47,11 +47,7 @@ impl<F: Folder, S: Store> Service for ProxyService<F, S> {
 
     ghost same = { λ x m q h. refl };
 
-    fn read(
-        _desk: &ProxyState<F, S>,
-        _alloc: Global,
-        head: &[u8],
-    ) -> Result<Request, Memory> {
+    fn read(_desk: &ProxyState<F, S>, _alloc: Global, head: &[u8]) -> Result<Request, Memory> {
         Ok(read_request(head, false))
     }
 

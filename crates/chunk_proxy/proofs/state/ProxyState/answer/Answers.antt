@@ -1,4 +1,3 @@
-use Rattle.std.proofs.Common.{refl}
 use Rattle.chunk_proxy.proofs.Sought.{answered, lacking}
 use Rattle.chunk_proxy.proofs.Stepped.{err_more, ok_more, lost_stands, put_stands}
 use Rattle.chunk_server.specs.declared.chunk_file.ReadMethod.TheVariants as method
