@@ -1,9 +1,9 @@
 -- Where no fault is counted, a connection is that of the cache and the stores.
 use Rattle.std.proofs.Common.{◌≡◌, ℕ, ◌+◌, ◌<◌, ◌^◌, List, [], ◌∷◌, ◌++◌, map, Option, Some, None, refl, ap, subst, ◌∙◌, arith}
 use Rattle.std.specs.Prelude.{IfSome}
-use Rattle.chunk_proxy.specs.Answers.{in_cache, in_stores, proxy_after, sought}
+use Rattle.chunk_proxy.specs.Answers.{given_by_cache, given_by_stores, proxy_after, sought}
 use Rattle.chunk_proxy.specs.States.{ProxyFiles}
-use Rattle.chunk_proxy.specs.Talks.{ProxyTalk, TalksExactly, miss, misses, one_where_none, proxy_answering, proxy_protocol}
+use Rattle.chunk_proxy.specs.Talks.{ProxyTalk, TalksExactly, ask_made, asks_made, one_where_none, proxy_answering, proxy_protocol}
 use Rattle.chunk_server.specs.Requests.{Asked, closes_behind}
 use Rattle.chunk_store.specs.declared.id.DigestKind.{DigestKind}
 use Rattle.dsy_base.specs.Counts.{Quiet}
@@ -21,21 +21,21 @@ module _ (kind : DigestKind) (maps : List (Map (List ℕ))) where
   sought_asks (Some b) other f id less = omega arith
   sought_asks None other f id less = grind (arith, less)
 
-  step_asks : (f : ProxyFiles) (a : Act) → f.asks + miss kind f a < 2 ^ 64 → (proxy_after kind maps f a).asks ≡ f.asks + miss kind f a
+  step_asks : (f : ProxyFiles) (a : Act) → f.asks + ask_made kind f a < 2 ^ 64 → (proxy_after kind maps f a).asks ≡ f.asks + ask_made kind f a
   unfolding proxy_after
-  step_asks f (act.Get id) less = sought_asks (in_cache kind f id.0) (in_stores kind maps id.0) f id.0 less
-  step_asks f (act.Head id) less = sought_asks (in_cache kind f id.0) (in_stores kind maps id.0) f id.0 less
+  step_asks f (act.Get id) less = sought_asks (given_by_cache kind f id.0) (given_by_stores kind maps id.0) f id.0 less
+  step_asks f (act.Head id) less = sought_asks (given_by_cache kind f id.0) (given_by_stores kind maps id.0) f id.0 less
   step_asks f (act.Put id) less = omega arith
   step_asks f act.Lost less = omega arith
   step_asks f (act.Refuse status) less = omega arith
 
-  asks_left : (f : ProxyFiles) (asked : List Asked) → f.asks + misses kind maps f asked < 2 ^ 64 → (files_left (proxy_answering kind maps) f asked).asks ≡ f.asks + misses kind maps f asked
-  unfolding misses files_left
+  asks_left : (f : ProxyFiles) (asked : List Asked) → f.asks + asks_made kind maps f asked < 2 ^ 64 → (files_left (proxy_answering kind maps) f asked).asks ≡ f.asks + asks_made kind maps f asked
+  unfolding asks_made files_left
   asks_left f [] less = omega arith
   asks_left f (a ∷ more) less =
       let g : ProxyFiles = proxy_after kind maps f a.request.act in
-      let one : g.asks ≡ f.asks + miss kind f a.request.act = step_asks f a.request.act (omega (arith, less)) in
-      let rest : (files_left (proxy_answering kind maps) g more).asks ≡ g.asks + misses kind maps g more = asks_left g more (omega (arith, less, one)) in
+      let one : g.asks ≡ f.asks + ask_made kind f a.request.act = step_asks f a.request.act (omega (arith, less)) in
+      let rest : (files_left (proxy_answering kind maps) g more).asks ≡ g.asks + asks_made kind maps g more = asks_left g more (omega (arith, less, one)) in
       omega (arith, one, rest)
 
   talk_exact : (t u : Traffic) (old new : ServedState ProxyFiles) (files : ProxyFiles) → Served (proxy_protocol kind maps) t old u new → old.files ≡ Some files → Quiet old.faults new.faults

@@ -5,7 +5,7 @@ use Rattle.std.proofs.lemmas.Bool.Decides.{nat_tests}
 use Rattle.std.proofs.lemmas.List.Elements.{All-head, All-tail}
 use Rattle.std.proofs.lemmas.Slice.Eq.{bytes_eq-Decides}
 use Rattle.caibx_fields.specs.Limits.{size_limit}
-use Rattle.chunk_proxy.specs.Answers.{first_of, in_stores}
+use Rattle.chunk_proxy.specs.Answers.{given_or, given_by_stores}
 use Rattle.chunk_proxy.specs.Obtaining.{any_size}
 use Rattle.chunk_server.specs.Answers.{chunk_held}
 use Rattle.chunk_store.specs.Names.{name_of}
@@ -73,31 +73,31 @@ module _ (kind : DigestKind) (id : ChunkId) where
   -- ---- several stores
 
   pub first_gives : (lacks : Bool) (b : List ℕ) → IsWanted (any_size kind id) b → (k : ℕ) (maps : List (Map (List ℕ))) → (IsTrue lacks → length maps ≤ 1)
-      → FirstAt (λ m. Gives (any_size kind id) m → IsTrue lacks) (λ m. m id.0 ≡ Some b) (λ m. Unit {0}) k maps → in_stores kind maps id.0 ≡ Some b
-  unfolding in_stores
+      → FirstAt (λ m. Gives (any_size kind id) m → IsTrue lacks) (λ m. m id.0 ≡ Some b) (λ m. Unit {0}) k maps → given_by_stores kind maps id.0 ≡ Some b
+  unfolding given_by_stores
   first_gives lacks b wanted k [] alone h = absurd h
-  first_gives lacks b wanted zero (m ∷ ms) alone h = ap (λ o. first_of o (in_stores kind ms id.0)) (held_given (m id.0) b h.0 wanted)
+  first_gives lacks b wanted zero (m ∷ ms) alone h = ap (λ o. given_or o (given_by_stores kind ms id.0)) (held_given (m id.0) b h.0 wanted)
   first_gives lacks b wanted (suc k) (m ∷ ms) alone h =
       let more : 1 ≤ length ms = some_first (λ x. Gives (any_size kind id) x → IsTrue lacks) (λ x. x id.0 ≡ Some b) (λ x. Unit {0}) k ms h.1 in
-      ap (λ o. first_of o (in_stores kind ms id.0)) (not_here m (λ gives. absurd (omega (arith, more, alone (h.0 gives)))))
+      ap (λ o. given_or o (given_by_stores kind ms id.0)) (not_here m (λ gives. absurd (omega (arith, more, alone (h.0 gives)))))
       ∙ first_gives lacks b wanted k ms (λ l. omega (arith, alone l)) h.1
 
-  pub all_lack : (maps : List (Map (List ℕ))) → All (HoldsNone (any_size kind id)) maps → in_stores kind maps id.0 ≡ None
-  unfolding in_stores
+  pub all_lack : (maps : List (Map (List ℕ))) → All (HoldsNone (any_size kind id)) maps → given_by_stores kind maps id.0 ≡ None
+  unfolding given_by_stores
   all_lack [] h = refl
   all_lack (m ∷ ms) h =
-      ap (λ o. first_of o (in_stores kind ms id.0)) (none_here m (All-head (HoldsNone (any_size kind id)) m ms h)) ∙ all_lack ms (All-tail (HoldsNone (any_size kind id)) m ms h)
+      ap (λ o. given_or o (given_by_stores kind ms id.0)) (none_here m (All-head (HoldsNone (any_size kind id)) m ms h)) ∙ all_lack ms (All-tail (HoldsNone (any_size kind id)) m ms h)
 
-  none_give : (maps : List (Map (List ℕ))) → All (λ m. Gives (any_size kind id) m → ⊥) maps → in_stores kind maps id.0 ≡ None
-  unfolding in_stores
+  none_give : (maps : List (Map (List ℕ))) → All (λ m. Gives (any_size kind id) m → ⊥) maps → given_by_stores kind maps id.0 ≡ None
+  unfolding given_by_stores
   none_give [] h = refl
   none_give (m ∷ ms) h =
-      ap (λ o. first_of o (in_stores kind ms id.0)) (not_here m (All-head (λ x. Gives (any_size kind id) x → ⊥) m ms h))
+      ap (λ o. given_or o (given_by_stores kind ms id.0)) (not_here m (All-head (λ x. Gives (any_size kind id) x → ⊥) m ms h))
       ∙ none_give ms (All-tail (λ x. Gives (any_size kind id) x → ⊥) m ms h)
 
   pub all_damaged : (x : Shows) (s : ℕ) (maps : List (Map (List ℕ)))
-      → FirstAt (HoldsNone (any_size kind id)) (HoldsElse (any_size kind id) x) (λ m. Gives (any_size kind id) m → ⊥) s maps → in_stores kind maps id.0 ≡ None
-  unfolding in_stores
+      → FirstAt (HoldsNone (any_size kind id)) (HoldsElse (any_size kind id) x) (λ m. Gives (any_size kind id) m → ⊥) s maps → given_by_stores kind maps id.0 ≡ None
+  unfolding given_by_stores
   all_damaged x s [] h = absurd h
-  all_damaged x zero (m ∷ ms) h = ap (λ o. first_of o (in_stores kind ms id.0)) (else_here m x h.0) ∙ none_give ms h.1
-  all_damaged x (suc s) (m ∷ ms) h = ap (λ o. first_of o (in_stores kind ms id.0)) (none_here m h.0) ∙ all_damaged x s ms h.1
+  all_damaged x zero (m ∷ ms) h = ap (λ o. given_or o (given_by_stores kind ms id.0)) (else_here m x h.0) ∙ none_give ms h.1
+  all_damaged x (suc s) (m ∷ ms) h = ap (λ o. given_or o (given_by_stores kind ms id.0)) (none_here m h.0) ∙ all_damaged x s ms h.1

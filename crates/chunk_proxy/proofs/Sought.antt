@@ -10,7 +10,7 @@ use Rattle.cache_store.specs.declared.cached.Kept.TheVariants as kept
 use Rattle.chunk_proxy.proofs.Held.{all_damaged, all_lack, first_gives, held_given, held_none}
 use Rattle.chunk_proxy.proofs.Stepped.{Stayed, Went, lingers, steps, told}
 use Rattle.chunk_proxy.proofs.Sure.{Parts, all_quiet, alone, few, no_rise, parts, told_each}
-use Rattle.chunk_proxy.specs.Answers.{AnswersThrough, LacksThrough, chunk_given, first_of, in_cache, in_stores, proxy_after, proxy_answer, sought}
+use Rattle.chunk_proxy.specs.Answers.{AnswersThrough, LacksThrough, chunk_given, given_or, given_by_cache, given_by_stores, proxy_after, proxy_answer, sought}
 use Rattle.chunk_proxy.specs.Obtaining.{ObtainsSo, SeeksChunk, TellsChunk, TellsOf, any_size}
 use Rattle.chunk_proxy.specs.States.{ProxyFiles, is_sure, maps_in, proxy_state, told_files}
 use Rattle.chunk_server.proofs.Stepped.{none_by}
@@ -43,21 +43,21 @@ module _ (kind : DigestKind) (maps : List (Map (List ℕ))) (id : ChunkId) where
   answered_by method.Get f o e = ap with_chunk (sym e)
   answered_by method.Head f o e = ap with_length (sym e)
 
-  leaves_by : (m : ReadMethod) (f : ProxyFiles) → proxy_after kind maps f (asked_by m id) ≡ sought (in_cache kind f id.0) (in_stores kind maps id.0) f id.0
+  leaves_by : (m : ReadMethod) (f : ProxyFiles) → proxy_after kind maps f (asked_by m id) ≡ sought (given_by_cache kind f id.0) (given_by_stores kind maps id.0) f id.0
   unfolding proxy_after
   leaves_by method.Get f = refl
   leaves_by method.Head f = refl
 
-  leaves_so : (m : ReadMethod) (f : ProxyFiles) (a b : Option (List ℕ)) → in_cache kind f id.0 ≡ a → in_stores kind maps id.0 ≡ b
+  leaves_so : (m : ReadMethod) (f : ProxyFiles) (a b : Option (List ℕ)) → given_by_cache kind f id.0 ≡ a → given_by_stores kind maps id.0 ≡ b
       → proxy_after kind maps f (asked_by m id) ≡ sought a b f id.0
-  leaves_so m f a b p q = leaves_by m f ∙ ap (λ o. sought o (in_stores kind maps id.0) f id.0) p ∙ ap (λ o. sought a o f id.0) q
+  leaves_so m f a b p q = leaves_by m f ∙ ap (λ o. sought o (given_by_stores kind maps id.0) f id.0) p ∙ ap (λ o. sought a o f id.0) q
 
-  goes : (m : ReadMethod) (f : ProxyFiles) (a b : Option (List ℕ)) (r : Answer) (left : Option (Map (List ℕ))) (count : ℕ) → in_cache kind f id.0 ≡ a → in_stores kind maps id.0 ≡ b
-      → r ≡ answer_by m (first_of a b) → left ≡ Some (sought a b f id.0).cache → count ≡ (sought a b f id.0).asks → Went kind maps (asked_by m id) r f left count
+  goes : (m : ReadMethod) (f : ProxyFiles) (a b : Option (List ℕ)) (r : Answer) (left : Option (Map (List ℕ))) (count : ℕ) → given_by_cache kind f id.0 ≡ a → given_by_stores kind maps id.0 ≡ b
+      → r ≡ answer_by m (given_or a b) → left ≡ Some (sought a b f id.0).cache → count ≡ (sought a b f id.0).asks → Went kind maps (asked_by m id) r f left count
   goes m f a b r left count p q is cache asks =
       let so = sym (leaves_so m f a b p q) in
       record {
-        answer = is ∙ answered_by m f (first_of a b) (ap (λ o. first_of o (in_stores kind maps id.0)) p ∙ ap (λ o. first_of a o) q);
+        answer = is ∙ answered_by m f (given_or a b) (ap (λ o. given_or o (given_by_stores kind maps id.0)) p ∙ ap (λ o. given_or a o) q);
         cache = cache ∙ ap (λ (g : ProxyFiles). Some g.cache) so;
         asks = asks ∙ ap (λ (g : ProxyFiles). g.asks) so;
       }
@@ -96,7 +96,7 @@ module _ {F S : Type 0} (files : F → Option (Map (List ℕ))) (place : F → L
     never rose = no_rise before.faults after.faults (calm old.shelf.folder (in_parts so).first) (calm new.shelf.folder (in_parts so).first) rose
 
     -- the cache doesn't give it where the stores were asked
-    not_cached : (r : Result Got Refused) (out : List ℕ) → Stores r out → in_cache kind (told m old.chain.asks) id.0 ≡ None
+    not_cached : (r : Result Got Refused) (out : List ℕ) → Stores r out → given_by_cache kind (told m old.chain.asks) id.0 ≡ None
     not_cached r out q =
         let unfound : Gives (any_size kind id) (chunks m) → Rose before.faults after.faults = subst (λ (o : Option (Map (List ℕ))). IfSome (option_map chunks o) (λ n. Gives (any_size kind id) n → Rose before.faults after.faults)) is q.unfound in
         held_none kind id (chunks m id.0) (λ b held wanted. never (unfound (b, held, wanted)))
@@ -105,7 +105,7 @@ module _ {F S : Type 0} (files : F → Option (Map (List ℕ))) (place : F → L
     obtains r out q =
         q.exactly maps (told_each store.holds (λ s. tells s (in_parts so).second) old.chain.stores) (all_quiet store.faults (λ s. sure s (in_parts so).third) old.chain.stores new.chain.stores)
 
-    given : (got : Got) (out : List ℕ) → IsWanted (any_size kind id) (take got.size out) → Stores (Ok got) out → in_stores kind maps id.0 ≡ Some (take got.size out)
+    given : (got : Got) (out : List ℕ) → IsWanted (any_size kind id) (take got.size out) → Stores (Ok got) out → given_by_stores kind maps id.0 ≡ Some (take got.size out)
     given got out wanted q =
         let first = obtains (Ok got) out q in
         first_gives kind id store.may_lack_memory (take got.size out) wanted first.0 maps
@@ -124,7 +124,7 @@ module _ {F S : Type 0} (files : F → Option (Map (List ℕ))) (place : F → L
       by_cache : (got : Got) (out : List ℕ) → IsWanted (any_size kind id) (take got.size out) → Shelves (Ok got) out → r ≡ answer_by mth (Some (take got.size out)) → Goes
       by_cache got out wanted q reply =
           let held : chunks m id.0 ≡ Some (take got.size out) = subst (λ (o : Option (Map (List ℕ))). IfSome (option_map chunks o) (λ n. n id.0 ≡ Some (take got.size out))) is q.answer.2 in
-          goes kind maps id mth (told m old.chain.asks) (Some (take got.size out)) (in_stores kind maps id.0) r _ _
+          goes kind maps id mth (told m old.chain.asks) (Some (take got.size out)) (given_by_stores kind maps id.0) r _ _
           (held_given kind id (chunks m id.0) (take got.size out) held wanted) refl reply (q.shelf.files ∙ is) (ap (λ c. c.asks) q.chain)
 
       by_stores : (got : Got) (out : List ℕ) → IsWanted (any_size kind id) (take got.size out) → Stores (Ok got) out → got.kept ≢ kept.Memory
@@ -133,7 +133,7 @@ module _ {F S : Type 0} (files : F → Option (Map (List ℕ))) (place : F → L
           goes kind maps id mth (told m old.chain.asks) None (Some (take got.size out)) r _ _ (not_cached (Ok got) out q) (given got out wanted q) reply
           (added (take got.size out) got.kept not q.added.1) q.asks.calls
 
-      by_none : (x : Refused) (out : List ℕ) → Stores (Err x) out → in_stores kind maps id.0 ≡ None → r ≡ bare 404 → Goes
+      by_none : (x : Refused) (out : List ℕ) → Stores (Err x) out → given_by_stores kind maps id.0 ≡ None → r ≡ bare 404 → Goes
       by_none x out q none reply =
           goes kind maps id mth (told m old.chain.asks) None None r _ _ (not_cached (Err x) out q) none (reply ∙ none_by mth) (q.added ∙ is) q.asks.calls
 

@@ -15,22 +15,22 @@ use Rattle.http_wire.specs.declared.request.Act.TheVariants as act
 use Rattle.chunk_proxy.specs.States.{AreCachesAlike, ProxyFiles}
 
 -- the first of two chunks that is there
-abbrev pub first_of : Option (List ℕ) → Option (List ℕ) → Option (List ℕ)
-first_of None other = other
-first_of (Some b) other = Some b
+abbrev pub given_or : Option (List ℕ) → Option (List ℕ) → Option (List ℕ)
+given_or None other = other
+given_or (Some b) other = Some b
 
 -- the chunk that the cache holds: bytes of the name, at most 64 MiB
-abbrev pub in_cache : DigestKind → ProxyFiles → List ℕ → Option (List ℕ)
-in_cache kind f id = chunk_held kind id (chunks f.cache id)
+abbrev pub given_by_cache : DigestKind → ProxyFiles → List ℕ → Option (List ℕ)
+given_by_cache kind f id = chunk_held kind id (chunks f.cache id)
 
 -- the chunk as the first store has it that holds such bytes
-unfoldable pub in_stores : DigestKind → List (Map (List ℕ)) → List ℕ → Option (List ℕ)
-in_stores kind [] id = None
-in_stores kind (m ∷ ms) id = first_of (chunk_held kind id (m id)) (in_stores kind ms id)
+unfoldable pub given_by_stores : DigestKind → List (Map (List ℕ)) → List ℕ → Option (List ℕ)
+given_by_stores kind [] id = None
+given_by_stores kind (m ∷ ms) id = given_or (chunk_held kind id (m id)) (given_by_stores kind ms id)
 
 -- the chunk that is given
 abbrev pub chunk_given : DigestKind → List (Map (List ℕ)) → ProxyFiles → List ℕ → Option (List ℕ)
-chunk_given kind maps f id = first_of (in_cache kind f id) (in_stores kind maps id)
+chunk_given kind maps f id = given_or (given_by_cache kind f id) (given_by_stores kind maps id)
 
 -- the answer
 unfoldable pub proxy_answer : DigestKind → List (Map (List ℕ)) → ProxyFiles → Act → Answer
@@ -53,8 +53,8 @@ sought None other f id = record { cache = filled f.cache id other; asks = raised
 
 -- what a request leaves
 unfoldable pub proxy_after : DigestKind → List (Map (List ℕ)) → ProxyFiles → Act → ProxyFiles
-proxy_after kind maps f (act.Get id) = sought (in_cache kind f id.0) (in_stores kind maps id.0) f id.0
-proxy_after kind maps f (act.Head id) = sought (in_cache kind f id.0) (in_stores kind maps id.0) f id.0
+proxy_after kind maps f (act.Get id) = sought (given_by_cache kind f id.0) (given_by_stores kind maps id.0) f id.0
+proxy_after kind maps f (act.Head id) = sought (given_by_cache kind f id.0) (given_by_stores kind maps id.0) f id.0
 proxy_after kind maps f (act.Put id) = f
 proxy_after kind maps f act.Lost = f
 proxy_after kind maps f (act.Refuse status) = f

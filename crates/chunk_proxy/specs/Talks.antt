@@ -11,7 +11,7 @@ use Rattle.http_serve.specs.Turns.{files_left, turns_of}
 use Rattle.http_wire.specs.declared.request.Act.{Act}
 use Rattle.http_wire.specs.declared.request.Act.TheVariants as act
 use Rattle.http_wire.specs.declared.request.Request.{Request}
-use Rattle.chunk_proxy.specs.Answers.{IsProxyAnswer, in_cache, proxy_after, proxy_answer}
+use Rattle.chunk_proxy.specs.Answers.{IsProxyAnswer, given_by_cache, proxy_after, proxy_answer}
 use Rattle.chunk_proxy.specs.States.{AreCachesAlike, ProxyFiles}
 
 -- how requests are answered
@@ -36,18 +36,18 @@ one_where_none None = 1
 one_where_none (Some b) = 0
 
 -- how often the stores are asked for an answer: once for a chunk that the cache doesn't give
-abbrev pub miss : DigestKind → ProxyFiles → Act → ℕ
-miss kind f (act.Get id) = one_where_none (in_cache kind f id.0)
-miss kind f (act.Head id) = one_where_none (in_cache kind f id.0)
-miss kind f (act.Put id) = 0
-miss kind f act.Lost = 0
-miss kind f (act.Refuse status) = 0
+abbrev pub ask_made : DigestKind → ProxyFiles → Act → ℕ
+ask_made kind f (act.Get id) = one_where_none (given_by_cache kind f id.0)
+ask_made kind f (act.Head id) = one_where_none (given_by_cache kind f id.0)
+ask_made kind f (act.Put id) = 0
+ask_made kind f act.Lost = 0
+ask_made kind f (act.Refuse status) = 0
 
 -- how many of the requests ask for a chunk that the cache, as it is then, doesn't give
-unfoldable pub misses : DigestKind → List (Map (List ℕ)) → ProxyFiles → List Asked → ℕ
-misses kind maps f [] = 0
-misses kind maps f (a ∷ more) =
-    miss kind f a.request.act + misses kind maps (proxy_after kind maps f a.request.act) more
+unfoldable pub asks_made : DigestKind → List (Map (List ℕ)) → ProxyFiles → List Asked → ℕ
+asks_made kind maps f [] = 0
+asks_made kind maps f (a ∷ more) =
+    ask_made kind f a.request.act + asks_made kind maps (proxy_after kind maps f a.request.act) more
 
 -- the bytes that are sent, and what is left, where b is all that comes, and the cache and the stores hold these. The
 -- count of asks stays at its greatest value
@@ -59,7 +59,8 @@ pub record ProxyTalk (kind : DigestKind) (maps : List (Map (List ℕ))) (b : Lis
   pub over : IsOver false rest
   pub answers : sent ≡ replies (turns_of (proxy_answering kind maps) files asked)
   pub leaves : left ≡ files_left (proxy_answering kind maps) files asked
-  pub asks : files.asks + misses kind maps files asked < 2 ^ 64 → left.asks ≡ files.asks + misses kind maps files asked
+  pub asks : files.asks + asks_made kind maps files asked < 2 ^ 64
+      → left.asks ≡ files.asks + asks_made kind maps files asked
 
 -- exactly the bytes of the talk were sent on a connection, and what is held is what the talk leaves, where that is told
 abbrev pub TalksExactly : DigestKind → List (Map (List ℕ)) → Traffic → ServedState ProxyFiles → Traffic

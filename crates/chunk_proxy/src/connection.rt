@@ -28,6 +28,7 @@ pub fn serve_proxy_connection<K: Link, F: Folder, S: Store>(
         (λ u. ServedWhole (proxy_protocol state.old.chain.kind (maps_in S.Store state.old))
         t (proxy_state F.files F.never_fails S.Store state.old)
         u (proxy_state F.files F.never_fails S.Store state.new))) }
+
     // Where the cache and the stores tell what they hold, and never fail.
     ensures exactly { result ≡ Served.Closed → IfSome (K.state link.old).traffic (λ t.
         IfSome (K.state link.new).traffic (λ u. TalksExactly state.old.chain.kind (maps_in S.Store state.old)

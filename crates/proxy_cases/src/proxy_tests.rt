@@ -35,7 +35,10 @@ const HEAD: &[u8] =
     b"HEAD /5304/53048e2681941ef99b2e29b76b4c7dabe4c2d0c634fc6d46e0e2f13107e7af23 HTTP/1.1\r\n\r\n";
 
 const PUT: &[u8] =
-    b"PUT /5304/53048e2681941ef99b2e29b76b4c7dabe4c2d0c634fc6d46e0e2f13107e7af23 HTTP/1.1\r\nContent-Length: 3\r\n\r\nabc";
+    b"PUT /5304/53048e2681941ef99b2e29b76b4c7dabe4c2d0c634fc6d46e0e2f13107e7af23 HTTP/1.1\r\n";
+
+// The rest of that request, and one behind it.
+const BODY: &[u8] = b"Content-Length: 3\r\n\r\nabcGET / HTTP/1.1\r\n\r\n";
 
 const OK_ABC: &[u8] = b"HTTP/1.1 200 OK\r\nContent-Length: 3\r\n\r\nabc";
 
@@ -183,7 +186,7 @@ fn a_put_is_not_taken(rt: HostRuntime) {
     let alloc = rt.alloc();
     let chain = chain_of(&rt, alloc, None);
     let mut proxy = proxy_of(alloc, cache_of(&rt, alloc, None), chain);
-    is_sent(&rt, alloc, &mut proxy, [PUT, GET], [NOT_TAKEN, b""]);
+    is_sent(&rt, alloc, &mut proxy, [PUT, BODY], [NOT_TAKEN, b""]);
     is_left(&rt, proxy, false, 0);
 }
 
