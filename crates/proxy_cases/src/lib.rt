@@ -2,6 +2,4 @@
 #![tactic(auto)]
 
 #[cfg(test)]
-mod compare;
-#[cfg(test)]
 mod proxy_tests;
