@@ -1,6 +1,6 @@
 #!/usr/bin/env python3
-"""`desync cat` of a whole image from a folder store into a file, beside `extract -k -n 1` into an absent one on the same
-disk; and the first byte of the last chunk of an index of 2^22 entries, beside that of the first chunk.
+"""`desync cat` of a whole image from a folder store into a file, beside `extract -k -n 1` into an absent one on the
+same disk; and the first byte of the last chunk of an index of 2^22 entries, beside that of the first chunk.
 
 The image is of random bytes, cut every 64 KiB. Needs twice the image's size and 168 MB under the temporary folder.
 """
@@ -34,7 +34,8 @@ def whole_image(folder, size, runs):
     side_by_side.print_table(rows, size)
     index = os.path.getsize(os.path.join(folder, 'image.caibx')) // 1024
     kept = KEPT * sliced.CHUNK // 1024
-    print(f'memory: {printing.peak} KiB, the index has {index} and {KEPT} chunks {kept}; at most {MEMORY} beside them\n')
+    print(f'memory: {printing.peak} KiB, the index has {index} and {KEPT} chunks {kept}; '
+          f'at most {MEMORY} beside them\n')
 
 
 def one_byte(folder, runs):

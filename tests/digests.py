@@ -5,6 +5,7 @@ What is right is worked out here by hashlib and openssl, and by the cutting of t
 installed its indexes are compared too.
 """
 
+import gzip
 import os
 import random
 import shutil
@@ -310,10 +311,42 @@ def by_casync(cases):
                 expect(ours == theirs, 'the indexes differ')
 
 
+def unpack(packed, folder):
+    """Writes the chunks of a store that casync filled with `--compression=gzip` unpacked, each under its id."""
+    for root, _, names in os.walk(packed):
+        for name in names:
+            stem, suffix = os.path.splitext(name)
+            expect_equal(suffix, '.cacnk', 'the suffix of a chunk file of casync')
+            inner = os.path.join(folder, os.path.relpath(root, packed))
+            os.makedirs(inner, exist_ok=True)
+            with open(os.path.join(inner, stem), 'wb') as file:
+                file.write(gzip.decompress(file_bytes(os.path.join(root, name))))
+
+
+def from_casync(cases):
+    for kind in FLAGS:
+        with cases.case(f'extract reads the index and the unpacked chunks of casync make --digest={kind}') as folder:
+            if shutil.which('casync') is None:
+                raise Skip('casync isn\'t installed')
+            image = random.Random(11).randbytes(3_000_000) + bytes(500_000)
+            with open(os.path.join(folder, 'img'), 'wb') as file:
+                file.write(image)
+            subprocess.run(['casync', 'make', '--store=packed', f'--digest={kind}', '--compression=gzip',
+                            '--exclude-file=no', 'theirs.caibx', 'img'], cwd=folder, check=True,
+                           stdin=subprocess.DEVNULL, stdout=subprocess.DEVNULL)
+            unpack(os.path.join(folder, 'packed'), os.path.join(folder, 'plain'))
+            ended = program.run(['extract', '-s', 'plain', 'theirs.caibx', 'out'], folder)
+            expect_ended(ended, what='extract')
+            expect(file_bytes(os.path.join(folder, 'out')) == image, 'the output isn\'t the image')
+            checked = program.run(['verify', '--digest', kind, '-s', 'plain'], folder)
+            expect_ended(checked, what='verify')
+
+
 def main():
     needs_program('digests')
     cases = Cases('digests')
-    for group in (vectors, making, reading, seeds, caches, verifying, served, words, by_casync):
+    for group in (vectors, making, reading, seeds, caches, verifying, served, words, by_casync,
+                  from_casync):
         group(cases)
     return cases.end()
 

@@ -1,8 +1,8 @@
 #!/bin/bash
 # What must never stand in the repository, and what must: tags and names of planning papers, paths of one machine,
-# files, lines and crates that are too long, crates that crates.txt or a document leaves out or names in vain, what a
-# document names that isn't there (crates, labels of clauses, definitions and functions), a manual page that says other
-# things than the help texts, and edits that don't fit the code that they change.
+# files, lines, crates and documents that are too long, crates that crates.txt or a document leaves out or names in
+# vain, what a document names that isn't there (crates, labels of clauses, definitions and functions), a manual page
+# that says other things than the help texts, and edits that don't fit the code that they change.
 cd "$(dirname "$0")/.." || exit 1
 passed=0
 failed=0
@@ -53,9 +53,13 @@ check 'paths of one machine' "$(lines '(^|[^A-Za-z0-9_.~-])/(opt|work|root)[/]')
 # But scripts of cases, and what these print.
 check 'files of more than 800 lines' "$(files | xargs -0 -r wc -l 2> /dev/null |
     awk '$2 ~ /^(\.\/)?crates\// && $2 !~ /_cases\/std(in|out)$/ && $1 > 800')"
+check 'files of src and specs of 500 lines and more' "$(files | grep -zE '^(\./)?crates/[a-z_]+/(src|specs)/' |
+    xargs -0 -r wc -l 2> /dev/null | awk '$2 != "total" && $1 >= 500')"
 check 'crates of more than 1,500 lines' "$(python3 tests/names.py long 2>&1)"
 check 'bodies of 40 lines and more' "$(python3 tests/names.py bodies 2>&1)"
+check 'functions of more than 7 parameters' "$(python3 tests/names.py parameters 2>&1)"
 check 'lines of more than 120 columns' "$(wide 2>&1)"
+check 'documents of too many words' "$(python3 tests/names.py words 2>&1)"
 check 'files that are built' "$(files | tr '\0' '\n' | grep -E '(^|/)(out|bin|__pycache__)/')"
 check 'crates that crates.txt leaves out' "$(comm -23 <(crates | sort) <(listed | sort))"
 check 'crates of crates.txt that are not there' "$(comm -13 <(crates | sort) <(listed | sort))"

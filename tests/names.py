@@ -1,6 +1,6 @@
 #!/usr/bin/env python3
 """What the documents name and the repository lacks, a line each, labels of clauses that no list has, and what is too
-much in crates.txt or in a crate.
+much in crates.txt, in a crate or in the documents.
 
 A crate is one of crates.txt. A label is the name of a clause (`ensures LABEL { .. }`). Each row of docs/PROMISES.md has
 a promise, and behind it public functions, a colon and labels, in a section whose heading has the crates in brackets:
@@ -19,8 +19,13 @@ TOP_CALLS = 'crates/desync_cli/src/run.rt', 'crates/desync_cli/src/in_memory.rt'
 CLAUSE = re.compile(r'^\s*(?:ensures|requires)\*? (\w+) \{')
 FUNCTION = re.compile(r'\s*(?:pub(?:\(\w+\))? )?fn (\w+)')
 DEFINITION = re.compile(r'^( *)(?:(?:abbrev|unfoldable) )?pub ((?:record|data) )?(?!mod |use |◌)(\w+)')
-IMPORT = re.compile(r'^(?:ghost )?use Rattle\.(\w+)\.specs\.(\w+)\.\{([^}]*)\}', re.MULTILINE)
-MOST_LINES, MOST_BODY = 1500, 40
+IMPORT = re.compile(r'^(?:ghost |pub )?use Rattle\.(\w+)\.specs\.(\w+)\.\{([^}]*)\}', re.MULTILINE)
+MODULE = re.compile(r'^(?:ghost |pub )?use Rattle\.(\w+)\.specs\.(\w+) as (\w+);?$', re.MULTILINE)
+MOST_LINES, MOST_BODY, MOST_PARAMETERS = 1500, 40, 7
+# Functions that have more parameters: the program's call, whose signature is given, and one that is to have fewer.
+MANY_PARAMETERS = {'desync_cli': ['desync'], 'image_workers': ['run_workers']}
+# The most words of all documents and of single ones, those of the manual page and of tables and blocks counted too.
+MOST_WORDS, MOST_OF = 35000, {PROMISES: 5000, DEFINITIONS: 5000}
 # Names of specs/ that several modules define, which modules these are, and why they may share it.
 SHARED = {name: ({f'chunk_server.{here}', f'http_serve.{there}'}, 'said of any requests, and of those for chunks')
           for here, there, names in (('Requests', 'Requests', ('AreRequests', 'IsOver')),
@@ -175,9 +180,19 @@ def modules():
 
 
 def imports_of(source):
-    """Where each name of a source comes from, and what it is called there."""
-    return {name.split(' as ')[-1]: (crate, module, name.split(' as ')[0])
-            for crate, module, names in IMPORT.findall(source) for name in names.split(', ')}
+    """Where each name of a source comes from, and what it is called there; modules that are named there, as `NAME.`."""
+    names = {name.split(' as ')[-1]: (crate, module, name.split(' as ')[0])
+             for crate, module, names in IMPORT.findall(source) for name in names.split(', ')}
+    return {**names, **{f'{name}.': (crate, module) for crate, module, name in MODULE.findall(source)}}
+
+
+def places_in(text, imports, crate='', module=''):
+    """Where the words of a text come from in a source with these imports, as crate, module and name."""
+    for word in set(re.findall(r'\w+', text)):
+        yield imports.get(word, (crate, module, word))
+    for alias, name in set(re.findall(r'\b(\w+\.)(\w+)', text)):
+        if alias in imports:
+            yield (*imports[alias], name)
 
 
 def read_aloud():
@@ -195,17 +210,21 @@ def read_aloud():
 def definitions_that_are_not_read_aloud():
     """What the clauses of the top calls reach and docs/DEFINITIONS.md lacks, and what it has that no specs/ have."""
     known = modules()
-    waiting = [imports_of(text_of(path)).get(word, ('', '', word)) for path in TOP_CALLS
+    waiting = [place for path in TOP_CALLS
                for signature in re.findall(r'^pub fn .*?^\{', text_of(path), re.MULTILINE | re.DOTALL)
-               for word in set(re.findall(r'\w+', signature))]
-    reached = set()
+               for place in places_in(signature, imports_of(text_of(path)))]
+    reached, seen = set(), set()
     while waiting:
-        crate, module, name = waiting.pop()
+        crate, module, name = place = waiting.pop()
+        if place in seen:
+            continue
+        seen.add(place)
         imports, defined = known.get((crate, module), ({}, {}))
-        if name in defined and (crate, module, name) not in reached:
-            reached.add((crate, module, name))
-            for word in set(re.findall(r'\w+', defined[name])) - {name}:
-                waiting.append(imports.get(word, (crate, module, word)))
+        if name in defined:
+            reached.add(place)
+            waiting.extend(places_in(defined[name], imports, crate, module))
+        elif name in imports:
+            waiting.append(imports[name])
     told = read_aloud()
     for name, places in told.items():
         if not places & {crate for (crate, _), (_, defined) in known.items() if name in defined}:
@@ -265,6 +284,13 @@ def crates_that_are_too_long():
             yield f'{crate}: {lines} lines'
 
 
+def documents_that_are_too_long():
+    words = {path: len(text_of(path).split()) for path in [*documents(), 'docs/desync.1']}
+    yield from (f'{path}: {words[path]} words' for path, most in MOST_OF.items() if most < words[path])
+    if MOST_WORDS < sum(words.values()):
+        yield f'all documents: {sum(words.values())} words'
+
+
 def bodies_that_are_too_long():
     """Bodies that have not fewer than 40 lines between their braces, but for those that are one `match`."""
     for path in (path for crate in crates() if not crate.endswith('_cases')
@@ -287,11 +313,41 @@ def body_of(lines, start, indent):
     return None
 
 
+def parameters_that_are_too_many():
+    for crate in (crate for crate in crates() if not crate.endswith('_cases')):
+        for path in files(f'crates/{crate}/src', endings='.rt'):
+            for found in re.finditer(r'^ *(?:pub(?:\(\w+\))? )?fn (\w+)', text_of(path), re.MULTILINE):
+                count = count_of_parameters(text_of(path)[found.end():])
+                if MOST_PARAMETERS < count and found.group(1) not in MANY_PARAMETERS.get(crate, ()):
+                    yield f'{path}: {found.group(1)} has {count} parameters'
+
+
+def count_of_parameters(signature):
+    """How many parameters a signature has, of which this stands behind the name: maybe types in `<>`, then brackets."""
+    depth = count = 0
+    inside, empty, last = False, True, ''
+    for char in signature:
+        if inside and not char.isspace() and depth == 1 and char not in ',)':
+            empty = False
+        if char in '([{<':
+            inside = inside or char == '(' and depth == 0
+            depth += 1
+        elif char in ')]}' or char == '>' and last not in '-=':
+            depth -= 1
+            if inside and depth == 0:
+                return count + (not empty)
+        elif inside and depth == 1 and char == ',':
+            count, empty = count + 1, True
+        last = char
+    return count
+
+
 QUESTIONS = {'labels': labels_that_are_not_there, 'list': labels_that_are_not_listed, 'names': names_that_are_not_there,
              'crates': crates_that_no_table_has, 'reached': definitions_that_are_not_read_aloud,
              'comments': definitions_without_a_comment, 'twice': names_with_two_meanings,
              'aliases': calls_with_an_alias, 'vain': crates_named_in_vain, 'long': crates_that_are_too_long,
-             'bodies': bodies_that_are_too_long}
+             'bodies': bodies_that_are_too_long, 'words': documents_that_are_too_long,
+             'parameters': parameters_that_are_too_many}
 
 if __name__ == '__main__':
     print('\n'.join(QUESTIONS[sys.argv[1]]()))

@@ -1,8 +1,10 @@
-//! Tests of ranges that are read of an image which isn't assembled.
+//! Tests of ranges that are read of an image which isn't assembled, and of groups of stores.
 #![tactic(auto)]
 
 #[cfg(test)]
 mod compare;
+#[cfg(test)]
+mod group_tests;
 #[cfg(test)]
 mod images;
 #[cfg(test)]

@@ -1,0 +1,63 @@
+use Rattle.std.proofs.Common.{◌<◌, ◌+◌, ℕ, List, length, refl, sym, subst, arith}
+use Rattle.std.specs.List.{AllZip}
+use Rattle.std.proofs.lemmas.List.{with_items_is}
+use Rattle.std.specs.Vec.{with_items}
+use Rattle.store_group.specs.Answers.{AnswersAt, AskedUpTo, FailsAll, AnswerSays}
+use Rattle.store_group.specs.Groups.{CountsFailures, Grouped, as_store}
+use Rattle.store_group.proofs.Groups.{answers_unfailed, failures_more, failures_still, group_asked, group_says}
+use Rattle.store_group.proofs.group.Group.answer.Goals as goal
+
+-- the stores afterwards
+abbrev left : {S : Type 0} → List S → ℕ → ℕ → ℕ → Grouped S
+left stores active retries failed = record { stores = stores; active = active; retries = retries; failed = failed }
+
+pub invariant_of-self : goal.invariant_of-self
+invariant_of-self g c =
+    let kept = with_items_is c.self.inside.stores c.ask_round.new.stores (omega (arith, c.ask_round.auto.stores, c.as_mut_slice-stores.ensures.len)) in
+    let turns = subst (λ (l : List g.row.S.Denot). AllZip (AskedUpTo g.S.Store c.args.question (c.self.inside.retries + 1) c.args.id.now.0) l c.ask_round.new.stores) c.as_mut_slice-stores.ensures.value c.ask_round.ensures.asked in
+    subst (λ (l : List g.row.S.Denot). (c.in-Some.number < length l) × CountsFailures g.S.Store.faults (left l c.in-Some.number c.self.inside.retries c.self.inside.failed)) (sym kept)
+    (c.in-Some.ensures.inside, failures_still g.S.Store c.args.question c.self.inside.retries c.args.id.now.0 c.self.inside.failed c.self.inside.stores.items c.ask_round.new.stores turns c.self.invariant.1)
+
+pub invariant_of-self-in-None : goal.invariant_of-self-in-None
+invariant_of-self-in-None g c =
+    let kept = with_items_is c.self.inside.stores c.ask_round.new.stores (omega (arith, c.ask_round.auto.stores, c.as_mut_slice-stores.ensures.len)) in
+    let failed = subst (λ (l : List g.row.S.Denot). AllZip (FailsAll g.S.Store c.self.inside.retries) l c.ask_round.new.stores) c.as_mut_slice-stores.ensures.value (c.ask_round.ensures.failed c.in-None.is) in
+    let counted = failures_more g.S.Store c.args.question c.self.inside.retries c.args.id.now.0 c.self.inside.failed c.self.inside.stores.items c.ask_round.new.stores failed c.self.invariant.1 in
+    subst (λ (l : List g.row.S.Denot). (c.self.inside.active < length l) × CountsFailures g.S.Store.faults (left l c.self.inside.active c.self.inside.retries c.raise-self-inside.result)) (sym kept) (
+      omega (arith, c.self.invariant.0, c.ask_round.auto.stores, c.as_mut_slice-stores.ensures.len),
+      subst (λ (n : ℕ). CountsFailures g.S.Store.faults (left c.ask_round.new.stores c.self.inside.active c.self.inside.retries n)) (sym c.raise-self-inside.ensures.value) counted,
+    )
+
+pub returns-in-Some-clause-says : goal.returns-in-Some-clause-says
+returns-in-Some-clause-says g c =
+    let kept = with_items_is c.self.inside.stores c.ask_round.new.stores (omega (arith, c.ask_round.auto.stores, c.as_mut_slice-stores.ensures.len)) in
+    let old = left c.self.inside.stores.items c.self.inside.active c.self.inside.retries c.self.inside.failed in
+    let new = left c.ask_round.new.stores c.in-Some.number c.self.inside.retries c.self.inside.failed in
+    let at = subst (λ (l : List g.row.S.Denot). AnswersAt g.S.Store c.args.question c.args.id.now.0 c.in-Some.number l c.ask_round.new.stores c.ask_round.new.out c.in-Some.answer) c.as_mut_slice-stores.ensures.value c.in-Some.ensures.at in
+    let says = group_says g.S.Store c.args.id.now.0 c.ask_round.new.out old new c.args.question c.in-Some.answer c.in-Some.number at in
+    subst (λ (v : Grouped g.row.S.Denot). AnswerSays (as_store g.S.Store) c.args.question c.args.id.now.0 v (left (with_items c.self.inside.stores c.ask_round.new.stores).items c.in-Some.number c.self.inside.retries c.self.inside.failed) c.ask_round.new.out c.in-Some.answer) c.self.view_is
+    (subst (λ (l : List g.row.S.Denot). AnswerSays (as_store g.S.Store) c.args.question c.args.id.now.0 old (left l c.in-Some.number c.self.inside.retries c.self.inside.failed) c.ask_round.new.out c.in-Some.answer) (sym kept) says)
+
+pub returns-in-Some-clause-asked : goal.returns-in-Some-clause-asked
+returns-in-Some-clause-asked g c =
+    let kept = with_items_is c.self.inside.stores c.ask_round.new.stores (omega (arith, c.ask_round.auto.stores, c.as_mut_slice-stores.ensures.len)) in
+    let old = left c.self.inside.stores.items c.self.inside.active c.self.inside.retries c.self.inside.failed in
+    let new = left c.ask_round.new.stores c.in-Some.number c.self.inside.retries c.self.inside.failed in
+    let turns = subst (λ (l : List g.row.S.Denot). AllZip (AskedUpTo g.S.Store c.args.question (c.self.inside.retries + 1) c.args.id.now.0) l c.ask_round.new.stores) c.as_mut_slice-stores.ensures.value c.ask_round.ensures.asked in
+    let asked = group_asked g.S.Store c.args.id.now.0 old new refl (omega arith) c.args.question turns in
+    subst (λ (v : Grouped g.row.S.Denot). AskedUpTo (as_store g.S.Store) c.args.question 1 c.args.id.now.0 v (left (with_items c.self.inside.stores c.ask_round.new.stores).items c.in-Some.number c.self.inside.retries c.self.inside.failed)) c.self.view_is
+    (subst (λ (l : List g.row.S.Denot). AskedUpTo (as_store g.S.Store) c.args.question 1 c.args.id.now.0 old (left l c.in-Some.number c.self.inside.retries c.self.inside.failed)) (sym kept) asked)
+
+pub returns-in-Some-clause-failed : goal.returns-in-Some-clause-failed
+returns-in-Some-clause-failed g c failed =
+    absurd (answers_unfailed g.S.Store c.args.question c.args.id.now.0 c.ask_round.new.out c.in-Some.answer c.in-Some.number _ c.ask_round.new.stores c.in-Some.ensures.at failed)
+
+pub returns-in-None-clause-asked : goal.returns-in-None-clause-asked
+returns-in-None-clause-asked g c =
+    let kept = with_items_is c.self.inside.stores c.ask_round.new.stores (omega (arith, c.ask_round.auto.stores, c.as_mut_slice-stores.ensures.len)) in
+    let old = left c.self.inside.stores.items c.self.inside.active c.self.inside.retries c.self.inside.failed in
+    let new = left c.ask_round.new.stores c.self.inside.active c.self.inside.retries c.raise-self-inside.result in
+    let turns = subst (λ (l : List g.row.S.Denot). AllZip (AskedUpTo g.S.Store c.args.question (c.self.inside.retries + 1) c.args.id.now.0) l c.ask_round.new.stores) c.as_mut_slice-stores.ensures.value c.ask_round.ensures.asked in
+    let asked = group_asked g.S.Store c.args.id.now.0 old new refl c.raise-self-inside.ensures.faults c.args.question turns in
+    subst (λ (v : Grouped g.row.S.Denot). AskedUpTo (as_store g.S.Store) c.args.question 1 c.args.id.now.0 v (left (with_items c.self.inside.stores c.ask_round.new.stores).items c.self.inside.active c.self.inside.retries c.raise-self-inside.result)) c.self.view_is
+    (subst (λ (l : List g.row.S.Denot). AskedUpTo (as_store g.S.Store) c.args.question 1 c.args.id.now.0 old (left l c.self.inside.active c.self.inside.retries c.raise-self-inside.result)) (sym kept) asked)

@@ -1,0 +1,187 @@
+//! Groups of stores. A group is a store itself. Stores are numbered from 0.
+
+ghost use Rattle.std.specs.Prelude.{[], ◌≡◌, ◌≢◌, ◌<◌, ◌≤◌, ◌+◌, length, vec_len};
+ghost use Rattle.std.specs.List.{AllZip};
+ghost use Rattle.dsy_base.specs.Counts.{raised};
+ghost use Rattle.store_group.specs.Answers.{AnswerSays, AnswersRound, AskedUpTo, FailsAll, IsAbout, answer_to_get};
+ghost use Rattle.store_group.specs.Answers.{answer_to_has};
+ghost use Rattle.store_group.specs.Groups.{AsksGroup, Grouped, as_store};
+
+use crate::answer::{Answer, Question};
+use crate::turns::ask_round;
+use chunk_store::id::ChunkId;
+use chunk_store::store::{GetFault, Store};
+use dsy_base::fault::{IoFault, raise};
+use std::marker::Model;
+
+/// Stores that are meant to hold the same chunks. One of them is active: it alone is asked, until it fails. Then it is
+/// asked again, up to a number of times, and after that the next one becomes active.
+#[derive(Drop)]
+pub struct Group<S: Store> {
+    stores: Vec<S>,
+    active: usize,
+    retries: u32,
+    failed: u64,
+}
+
+impl<S: Store> Model for Group<S> {
+    ghost use Rattle.std.specs.Prelude.{◌<◌, length};
+    ghost use Rattle.store_group.specs.Groups.{Grouped, CountsFailures};
+
+    ghost Value = { Grouped S };
+
+    ghost view = { λ g. record { stores = g.stores.items; active = g.active; retries = g.retries; failed = g.failed } };
+
+    ghost invariant = { λ g. (g.active < length g.stores.items) × CountsFailures S.faults (record {
+      stores = g.stores.items;
+      active = g.active;
+      retries = g.retries;
+      failed = g.failed;
+    }) };
+}
+
+// What a call of `get` answers.
+fn got(answer: Answer) -> Result<usize, GetFault>
+    requires { IsAbout answer Question.Get }
+    ensures { answer_to_get result ≡ answer }
+{
+    match answer {
+        Answer::Given(n) => Ok(n),
+        Answer::Missing => Err(GetFault::Missing),
+        Answer::Longer => Err(GetFault::Longer),
+        Answer::Failed => Err(GetFault::Failed),
+        Answer::Memory => Err(GetFault::Memory),
+        Answer::There(_) => unreachable!(),
+    }
+}
+
+// What a call of `has` answers.
+fn there(answer: Answer) -> Result<bool, IoFault>
+    requires { IsAbout answer Question.Has }
+    ensures { answer_to_has result ≡ answer }
+{
+    match answer {
+        Answer::There(has) => Ok(has),
+        Answer::Failed => Err(IoFault::Failed),
+        Answer::Memory => Err(IoFault::Memory),
+        Answer::Given(_) | Answer::Missing | Answer::Longer => unreachable!(),
+    }
+}
+
+impl<S: Store> Group<S> {
+    /// The first of the stores is active. A call that fails is made up to `retries` times more.
+    pub fn new(stores: Vec<S>, retries: u32) -> Group<S>
+        requires size { 1 ≤ vec_len stores }
+        ensures value { result ≡ record { stores = stores.items; active = 0; retries = retries; failed = 0 } }
+    {
+        Group {
+            stores,
+            active: 0,
+            retries,
+            failed: 0,
+        }
+    }
+
+    pub fn into_stores(self) -> Vec<S>
+        ensures value { result.items ≡ self.stores }
+    {
+        let Group { stores, .. } = self;
+        stores
+    }
+
+    /// The number of the store that is asked first.
+    pub fn active(&self) -> usize
+        ensures value { result ≡ self.now.active }
+    {
+        self.active
+    }
+
+    // Asks the active store, and those after it where it fails, round the group.
+    fn answer(&mut self, question: Question, id: &ChunkId, out: &mut [u8]) -> Answer
+        ensures says { AnswerSays (as_store S.Store) question id.now.0 self.old self.new out.new result }
+        ensures asked { AskedUpTo (as_store S.Store) question 1 id.now.0 self.old self.new }
+        ensures turns { AllZip (AskedUpTo S.Store question (self.old.retries + 1) id.now.0) self.old.stores
+            self.new.stores }
+        ensures active { result ≢ Answer.Failed → (self.new.failed ≡ self.old.failed) × AnswersRound S.Store question
+            self.old.retries id.now.0 self.old.active self.new.active self.old.stores self.new.stores out.new result }
+        ensures failed { result ≡ Answer.Failed → (self.new.failed ≡ raised self.old.failed 1)
+            × (self.new.active ≡ self.old.active)
+            × AllZip (FailsAll S.Store self.old.retries) self.old.stores self.new.stores }
+        ensures retries { self.new.retries ≡ self.old.retries }
+    {
+        let stores = self.stores.as_mut_slice();
+        match ask_round(stores, self.active, self.retries, question, id, out) {
+            Some((number, answer)) => {
+                self.active = number;
+                answer
+            }
+            None => {
+                self.failed = raise(self.failed, 1);
+                Answer::Failed
+            }
+        }
+    }
+
+    /// Fills the front of `out` with the bytes that the group gives under the id, and answers their number.
+    pub fn ask_for(&mut self, id: &ChunkId, out: &mut [u8]) -> Result<usize, GetFault>
+        ensures asked { AsksGroup S.Store Question.Get id.now.0 self.old self.new out.new (answer_to_get result) }
+    {
+        let answer = self.answer(Question::Get, id, out);
+        got(answer)
+    }
+
+    /// Whether the group has something under the id.
+    pub fn ask_whether(&mut self, id: &ChunkId) -> Result<bool, IoFault>
+        ensures asked { AsksGroup S.Store Question.Has id.now.0 self.old self.new [] (answer_to_has result) }
+    {
+        let answer = self.answer(Question::Has, id, &mut []);
+        there(answer)
+    }
+}
+
+impl<S: Store> Store for Group<S> {
+    ghost use Rattle.std.specs.Prelude.{false};
+    ghost use Rattle.std.proofs.Common.{rules};
+    ghost use Rattle.store_group.specs.Groups.{group_count, of_one, group_place, said_of, sent_of};
+    ghost use Rattle.store_group.specs.Groups.{lies_one, says_one, unasked_one};
+
+    ghost holds = { λ g. of_one S.holds g.stores };
+
+    ghost folder = { λ g. of_one S.folder g.stores };
+
+    ghost said = { λ g. said_of S.said g.stores };
+
+    ghost sent = { λ g. sent_of S.sent g.stores };
+
+    ghost asked = { λ g. group_count S.asked g };
+
+    ghost queried = { λ g. group_count S.queried g };
+
+    ghost faults = { λ g. g.failed };
+
+    ghost place = { λ g. group_place S.place g.stores };
+
+    ghost tells = { false };
+
+    ghost never_fails = { false };
+
+    ghost may_lack_memory = { S.may_lack_memory };
+
+    fn get(&mut self, id: &ChunkId, out: &mut [u8]) -> Result<usize, GetFault> {
+        self.ask_for(id, out)
+    }
+
+    fn has(&mut self, id: &ChunkId) -> Result<bool, IoFault> {
+        self.ask_whether(id)
+    }
+
+    ghost says = { λ g. says_one S.holds S.said S.says g.stores };
+
+    ghost lies = { λ g. lies_one S.holds S.folder S.lies g.stores };
+
+    ghost unasked = { λ g. unasked_one S.holds S.asked S.queried S.unasked g };
+
+    ghost told = { Prim.search rules };
+
+    ghost sure = { Prim.search rules };
+}
