@@ -21,7 +21,7 @@ use Rattle.command_steps.specs.AnyStores.{IsGiven, source_faults, source_files, 
 use Rattle.command_steps.specs.Cache.{CacheGiven, CacheOpened, with_cache}
 use Rattle.command_indexes.proofs.Spelled.{IsPart, not_spelled_wider, spells_wider}
 use Rattle.command_indexes.specs.Places.{are_files}
-use Rattle.command_indexes.specs.Spelled.{Spells}
+use Rattle.command_indexes.specs.Spelled.{IndexSpells}
 use Rattle.command_steps.specs.Stores.{are_folders}
 use Rattle.command_steps.specs.Sources.{ConsultsStores, Storage, SourcesOpened, storage, location_files}
 use Rattle.command_worlds.specs.Steps.{outcome_of}
@@ -186,7 +186,7 @@ module _ (a b : Evidence) (held : (fs : List (Map (List ℕ))) → b.holds fs �
 
 -- the first index filled, and then the rest
 fills_next : (over : Evidence) (w v : Storage) (q : List ℕ) (indexes : List (List ℕ)) (l : Listing) (x z y : Option (Map (List ℕ))) (r : Result Unit Outcome)
-    → Spells w v q l → IndexFilled over l x z (Ok tt) → FillsEach over w v indexes z y r → FillsEach over w v (q ∷ indexes) x y r
+    → IndexSpells w v q l → IndexFilled over l x z (Ok tt) → FillsEach over w v indexes z y r → FillsEach over w v (q ∷ indexes) x y r
 fills_next over w v q indexes l x z y (Ok u) listed filled rest = (l, listed, z, filled, rest)
 fills_next over w v q indexes l x z y (Err o) listed filled rest = inr (l, listed, inr (z, filled, rest))
 
@@ -212,7 +212,7 @@ module _ {S : Type 0} (files : S → Option (Map (List ℕ))) (said : S → Said
   abbrev all : Evidence
   all = of_calls files said counted c0 c2 m0 m2
 
-  pub fills_on : (q : List ℕ) (indexes : List (List ℕ)) (l : Listing) (x z y : Option (Map (List ℕ))) (r : Result Unit Outcome) → Spells w v q l → IndexFilled first l x z (Ok tt) → FillsEach next u v indexes z y r → FillsEach all w v (q ∷ indexes) x y r
+  pub fills_on : (q : List ℕ) (indexes : List (List ℕ)) (l : Listing) (x z y : Option (Map (List ℕ))) (r : Result Unit Outcome) → IndexSpells w v q l → IndexFilled first l x z (Ok tt) → FillsEach next u v indexes z y r → FillsEach all w v (q ∷ indexes) x y r
   fills_on q indexes l x z y r listed filled rest =
       fills_next all w v q indexes l x z y r listed
       (done_wider first all (λ fs told. told) (λ fs told quiet. still_first quiet) l x z filled)

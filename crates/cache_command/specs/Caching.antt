@@ -14,7 +14,7 @@ use Rattle.chunk_store.specs.declared.id.ChunkId.{ChunkId}
 use Rattle.command_outcome.specs.declared.outcome.Outcome.{Outcome}
 use Rattle.command_outcome.specs.declared.outcome.Outcome.TheVariants as ends
 use Rattle.command_indexes.specs.Places.{are_files}
-use Rattle.command_indexes.specs.Spelled.{AsksInTurn, NotSpelled, Spells}
+use Rattle.command_indexes.specs.Spelled.{AsksInTurn, NotSpelled, IndexSpells}
 use Rattle.command_steps.specs.Asking.{AsksOnly, WorkersDialed}
 use Rattle.command_steps.specs.Cache.{CacheOpened}
 use Rattle.command_steps.specs.Dials.{Dials}
@@ -149,13 +149,13 @@ module _ (over : Evidence) where
   module _ (w v : Storage) where
     abbrev pub AllFilled : List (List ℕ) → Option (Map (List ℕ)) → Option (Map (List ℕ)) → Type 0
     AllFilled [] x y = y ≡ x
-    AllFilled (q ∷ indexes) x y = (l : Listing) × Spells w v q l × (z : Option (Map (List ℕ))) × IndexFilled l x z (Ok tt)
+    AllFilled (q ∷ indexes) x y = (l : Listing) × IndexSpells w v q l × (z : Option (Map (List ℕ))) × IndexFilled l x z (Ok tt)
         × AllFilled indexes z y
 
     -- the first index that wasn't had, or by which the cache couldn't be filled
     abbrev pub NotFilled : List (List ℕ) → Option (Map (List ℕ)) → Option (Map (List ℕ)) → Outcome → Type 0
     NotFilled [] x y o = ⊥
-    NotFilled (q ∷ indexes) x y o = (NotSpelled w v q o × (y ≡ x)) ⊎ ((l : Listing) × Spells w v q l
+    NotFilled (q ∷ indexes) x y o = (NotSpelled w v q o × (y ≡ x)) ⊎ ((l : Listing) × IndexSpells w v q l
         × (((fault : FillFault) × (o ≡ outcome_of_fill fault) × IndexFilled l x y (Err fault))
         ⊎ ((z : Option (Map (List ℕ))) × IndexFilled l x z (Ok tt) × NotFilled indexes z y o)))
 
@@ -169,7 +169,7 @@ module _ (over : Evidence) where
 abbrev pub FrontSpelled : Storage → Storage → List (List ℕ) → List Listing → Type 0
 FrontSpelled w v indexes [] = Unit {0}
 FrontSpelled w v [] (l ∷ ls) = ⊥
-FrontSpelled w v (q ∷ indexes) (l ∷ ls) = Spells w v q l × FrontSpelled w v indexes ls
+FrontSpelled w v (q ∷ indexes) (l ∷ ls) = IndexSpells w v q l × FrontSpelled w v indexes ls
 
 -- how many entries list the id
 abbrev pub listed_times : List Listing → List ℕ → ℕ

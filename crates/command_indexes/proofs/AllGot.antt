@@ -5,7 +5,7 @@ use Rattle.caibx_codec.specs.Listing.{Listing}
 use Rattle.command_indexes.proofs.Got.{got_dials, got_reads}
 use Rattle.command_indexes.proofs.Spelled.{IsPart, got_then, spells_wider}
 use Rattle.command_indexes.specs.Gets.{IndexesGot}
-use Rattle.command_indexes.specs.Spelled.{Spells}
+use Rattle.command_indexes.specs.Spelled.{IndexSpells}
 use Rattle.command_steps.proofs.Consulted.{reads_none, reads_twice}
 use Rattle.command_steps.proofs.Dialed.{dials_none, dials_twice}
 use Rattle.command_steps.specs.Dials.{Dials}
@@ -36,17 +36,17 @@ all_left n (q ∷ names) w ls v h =
     let rest = all_left h.then.gave names (world h.then.disk h.then.dial h.then.out) h.then.then.gave x h.then.then.did in
     subst (IsLeft w) (sym h.then.then.then.1) (left_twice w (world h.then.disk h.then.dial h.then.out) x counted rest)
 
-all_wider : (w u v : Storage) → IsPart w u v v → (names : List (List ℕ)) (ls : List Listing) → AllZip (Spells u v) names ls → AllZip (Spells w v) names ls
+all_wider : (w u v : Storage) → IsPart w u v v → (names : List (List ℕ)) (ls : List Listing) → AllZip (IndexSpells u v) names ls → AllZip (IndexSpells w v) names ls
 all_wider w u v part [] [] h = tt
 all_wider w u v part [] (l ∷ ls) h = absurd h
 all_wider w u v part (q ∷ names) [] h = absurd h
 all_wider w u v part (q ∷ names) (l ∷ ls) h = (spells_wider w u v v part q l h.0, all_wider w u v part names ls h.1)
 
 -- what each spelled, over these steps and later ones
-pub all_spelled : (n : ℕ) (names : List (List ℕ)) (w : World) (ls : List Listing) (u : World) (v : Storage) → IndexesGot n names w (Ok ls) u → Dials u.dial v.dial → AllZip (Spells (storage_of w) v) names ls
+pub all_spelled : (n : ℕ) (names : List (List ℕ)) (w : World) (ls : List Listing) (u : World) (v : Storage) → IndexesGot n names w (Ok ls) u → Dials u.dial v.dial → AllZip (IndexSpells (storage_of w) v) names ls
 all_spelled n [] w ls u v h later =
     let none : ls ≡ [] = let same = h.0 in cc in
-    subst (λ (k : List Listing). AllZip (Spells (storage_of w) v) [] k) (sym none) tt
+    subst (λ (k : List Listing). AllZip (IndexSpells (storage_of w) v) [] k) (sym none) tt
 all_spelled n (q ∷ names) w ls u v h later =
     let s = storage h.disk h.dial in
     let m = world h.then.disk h.then.dial h.then.out in
@@ -67,6 +67,6 @@ all_spelled n (q ∷ names) w ls u v h later =
       later = λ a. omega arith;
     } in
     let here : Dials h.dial v.dial = subst (λ (y : World). Dials y.dial v.dial) h.then.did.1 after in
-    let spelled : AllZip (Spells (storage_of w) v) (q ∷ names) (h.gave ∷ h.then.then.gave) = (got_then q (storage_of w) s v h.gave h.did.0 here, all_wider (storage_of w) (storage_of m) v part names h.then.then.gave others) in
+    let spelled : AllZip (IndexSpells (storage_of w) v) (q ∷ names) (h.gave ∷ h.then.then.gave) = (got_then q (storage_of w) s v h.gave h.did.0 here, all_wider (storage_of w) (storage_of m) v part names h.then.then.gave others) in
     let are : ls ≡ h.gave ∷ h.then.then.gave = let same = h.then.then.then.0 in cc in
-    subst (λ (k : List Listing). AllZip (Spells (storage_of w) v) (q ∷ names) k) (sym are) spelled
+    subst (λ (k : List Listing). AllZip (IndexSpells (storage_of w) v) (q ∷ names) k) (sym are) spelled

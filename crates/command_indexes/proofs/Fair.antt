@@ -5,11 +5,11 @@ use Rattle.caibx_codec.specs.Listing.{Listing}
 use Rattle.command_indexes.proofs.Got.{got_dials, got_file, got_not_spelled, got_reads}
 use Rattle.command_indexes.specs.Gets.{IndexGot, IndexesGot}
 use Rattle.command_indexes.specs.Places.{are_files, is_file}
-use Rattle.command_indexes.specs.Spelled.{NotServed, NotSpelled, NotSpelledAt}
+use Rattle.command_indexes.specs.Spelled.{NoneServed, NotSpelled, NotSpelledAt}
 use Rattle.command_outcome.specs.declared.outcome.Outcome.{Outcome}
 use Rattle.command_outcome.specs.declared.outcome.Outcome.TheVariants as ends
-use Rattle.command_steps.proofs.Fair.{IsFair, IsLeft, IsStep, behind, bound, on_sources, pure_step, unread_fair, whole}
-use Rattle.command_steps.specs.Blames.{IndexRose, Parts, Spares}
+use Rattle.command_indexes.proofs.FairSteps.{IsFair, IsLeft, IsStep, behind, bound, on_sources, pure_step, unread_fair, whole}
+use Rattle.command_indexes.specs.Blames.{IndexRose, Parts, Spares}
 use Rattle.command_steps.specs.Seeds.{CountedWith}
 use Rattle.command_steps.specs.Sources.{Storage}
 use Rattle.command_words.specs.Locations.{index_place_of}
@@ -20,7 +20,7 @@ use Rattle.command_worlds.specs.Worlds.{World}
 use Rattle.dsy_base.specs.Disk.{Output}
 
 module _ (x : Parts) (p : Output) (w v : Storage) (q : List ℕ) (has : Contains x.indexes q) where
-  unserved_fair : (host : List ℕ) (port : ℕ) (path : List ℕ) → index_place_of q ≡ Ok (places.Http host port path) → (o : Outcome) → NotServed q host port path w v o → IsFair x o (behind p w) (behind p v)
+  unserved_fair : (host : List ℕ) (port : ℕ) (path : List ℕ) → index_place_of q ≡ Ok (places.Http host port path) → (o : Outcome) → NoneServed q host port path w v o → IsFair x o (behind p w) (behind p v)
   unserved_fair host port path is (ends.NoFile name) h = (tt, tt)
   unserved_fair host port path is (ends.BadIndex name fault) h = (tt, tt)
   unserved_fair host port path is (ends.FileFault name) h = (

@@ -3,13 +3,13 @@ use Rattle.std.proofs.Common.{◌≡◌, ◌≢◌, ◌⊎◌, ℕ, Bool, true, 
 use Rattle.std.specs.List.{Any}
 use Rattle.caibx_codec.specs.Listing.{Listing}
 use Rattle.command_indexes.specs.Gets.{GotAt, IndexGot, answer_of_fetch}
-use Rattle.command_indexes.specs.Spelled.{AsksOnceAt, HasReplied, NotServed, NotSpelledAt, SpellsAt}
+use Rattle.command_indexes.specs.Spelled.{AsksOnceAt, HasReplied, NoneServed, NotSpelledAt, SpellsAt}
 use Rattle.command_outcome.specs.declared.outcome.Outcome.{Outcome}
 use Rattle.command_outcome.specs.declared.outcome.Outcome.TheVariants as ends
 use Rattle.command_steps.proofs.Consulted.{reads_none}
 use Rattle.command_steps.proofs.Dialed.{dials_same, grows_none, since_is}
 use Rattle.command_steps.proofs.Used.{uses_none}
-use Rattle.command_steps.specs.Blames.{IsUnfetched}
+use Rattle.command_indexes.specs.Blames.{IsUnfetched}
 use Rattle.command_steps.specs.Dials.{Dials, EndedGrows, since}
 use Rattle.command_steps.specs.InputFiles.{IndexRead}
 use Rattle.command_steps.specs.Sources.{NotAsking, Storage}
@@ -114,26 +114,26 @@ module _ (q host : List ℕ) (port : ℕ) (path : List ℕ) (w v : Storage) wher
       subst (λ (x : Listing). HasReplied host port path w v (Ok x)) same (replied (Ok m) h.reply)
   served l (Err e) is h = absurd (cc)
 
-  not_served : (o : Outcome) (f : Result Listing FetchFault) → Err o ≡ answer_of_fetch q f → Served f → NotServed q host port path w v o
+  not_served : (o : Outcome) (f : Result Listing FetchFault) → Err o ≡ answer_of_fetch q f → Served f → NoneServed q host port path w v o
   not_served o (Ok m) is h = absurd (cc)
   not_served o (Err fetch.Absent) is h =
       let same : ends.NoFile q ≡ o = cc in
-      subst (NotServed q host port path w v) same (refl, replied (Err fetch.Absent) h.reply)
+      subst (NoneServed q host port path w v) same (refl, replied (Err fetch.Absent) h.reply)
   not_served o (Err (fetch.Bad fault)) is h =
       let same : ends.BadIndex q fault ≡ o = cc in
-      subst (NotServed q host port path w v) same (refl, replied (Err (fetch.Bad fault)) h.reply)
+      subst (NoneServed q host port path w v) same (refl, replied (Err (fetch.Bad fault)) h.reply)
   not_served o (Err (fetch.Status status)) is h =
       let same : ends.FileFault q ≡ o = cc in
-      subst (NotServed q host port path w v) same (refl, inr (since_one _ (IsUnfetched host port path) (λ t p. record { why = fetch.Status status; untaken = tt; sent = p.0; reply = p.1 }) w.dial.ended v.dial.ended h.reply))
+      subst (NoneServed q host port path w v) same (refl, inr (since_one _ (IsUnfetched host port path) (λ t p. record { why = fetch.Status status; untaken = tt; sent = p.0; reply = p.1 }) w.dial.ended v.dial.ended h.reply))
   not_served o (Err (fetch.Wire fault)) is h =
       let same : ends.FileFault q ≡ o = cc in
-      subst (NotServed q host port path w v) same (refl, inr (since_one _ (IsUnfetched host port path) (λ t p. record { why = fetch.Wire fault; untaken = tt; sent = p.0; reply = p.1 }) w.dial.ended v.dial.ended h.reply))
+      subst (NoneServed q host port path w v) same (refl, inr (since_one _ (IsUnfetched host port path) (λ t p. record { why = fetch.Wire fault; untaken = tt; sent = p.0; reply = p.1 }) w.dial.ended v.dial.ended h.reply))
   not_served o (Err fetch.Failed) is h =
       let same : ends.FileFault q ≡ o = cc in
-      subst (NotServed q host port path w v) same (refl, inl (h.faults.cause refl))
+      subst (NoneServed q host port path w v) same (refl, inl (h.faults.cause refl))
   not_served o (Err fetch.Memory) is h =
       let same : ends.Memory ≡ o = cc in
-      subst (NotServed q host port path w v) same tt
+      subst (NoneServed q host port path w v) same tt
 
 pub got_spells : (q : List ℕ) (p : Result IndexPlace NoLocation) (w : Storage) (l : Listing) (v : Storage) → GotAt q p w (Ok l) v → SpellsAt q p w v l
 got_spells q (Ok (places.File name)) w l v h = h.0.0

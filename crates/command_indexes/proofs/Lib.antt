@@ -1,3 +1,5 @@
+pub mod Rises
+pub mod FairSteps
 pub mod Got
 pub mod InOrder
 pub mod Spelled

@@ -5,10 +5,10 @@ use Rattle.caibx_codec.specs.Listing.{Listing}
 use Rattle.command_indexes.proofs.Got.{got_dials, got_spells, is_false, place_of_file}
 use Rattle.command_indexes.specs.Gets.{IndexGot}
 use Rattle.command_indexes.specs.Places.{is_file}
-use Rattle.command_indexes.specs.Spelled.{HasReplied, NotServed, NotSpelled, NotSpelledAt, Spells, SpellsAt}
+use Rattle.command_indexes.specs.Spelled.{HasReplied, NoneServed, NotSpelled, NotSpelledAt, IndexSpells, SpellsAt}
 use Rattle.command_outcome.specs.declared.outcome.Outcome.{Outcome}
 use Rattle.command_outcome.specs.declared.outcome.Outcome.TheVariants as ends
-use Rattle.command_steps.proofs.Consulted.{index_rose_later, index_rose_longer}
+use Rattle.command_indexes.proofs.Rises.{index_rose_later, index_rose_longer}
 use Rattle.command_steps.proofs.Dialed.{any_earlier, any_longer, dials_twice}
 use Rattle.command_steps.proofs.Numbers.{rose_later, rose_longer}
 use Rattle.command_steps.specs.Dials.{Dials}
@@ -27,7 +27,7 @@ got_then_at q (Ok (places.File name)) w u v l a b h = h
 got_then_at q (Ok (places.Http host port path)) w u v l a b h = any_longer _ w.dial.ended u.dial.ended v.dial.ended a.ended b.ended h
 got_then_at q (Err why) w u v l a b h = h
 
-pub got_then : (q : List ℕ) (w u v : Storage) (l : Listing) → IndexGot q w (Ok l) u → Dials u.dial v.dial → Spells w v q l
+pub got_then : (q : List ℕ) (w u v : Storage) (l : Listing) → IndexGot q w (Ok l) u → Dials u.dial v.dial → IndexSpells w v q l
 got_then q w u v l got later =
     let p = index_place_of q in
     got_then_at q p w u v l (got_dials q p w (Ok l) u got) later (got_spells q p w l u got)
@@ -52,7 +52,7 @@ module _ (w u x v : Storage) (part : IsPart w u x v) where
   spells_at q (Ok (places.Http host port path)) l h = replied_wider host port path (Ok l) h
   spells_at q (Err why) l h = h
 
-  pub spells_wider : (q : List ℕ) (l : Listing) → Spells u x q l → Spells w v q l
+  pub spells_wider : (q : List ℕ) (l : Listing) → IndexSpells u x q l → IndexSpells w v q l
   spells_wider q l h = spells_at q (index_place_of q) l h
 
   unread : (q : List ℕ) (o : Outcome) → NotRead u.disk x.disk q o → NotRead w.disk v.disk q o
@@ -66,7 +66,7 @@ module _ (w u x v : Storage) (part : IsPart w u x v) where
   unread q ends.Memory h = tt
   unread q other h = absurd h
 
-  unserved : (q host : List ℕ) (port : ℕ) (path : List ℕ) (o : Outcome) → NotServed q host port path u x o → NotServed q host port path w v o
+  unserved : (q host : List ℕ) (port : ℕ) (path : List ℕ) (o : Outcome) → NoneServed q host port path u x o → NoneServed q host port path w v o
   unserved q host port path (ends.NoFile name) h = (h.0, replied_wider host port path (Err fetch.Absent) h.1)
   unserved q host port path (ends.BadIndex name fault) h = (h.0, replied_wider host port path (Err (fetch.Bad fault)) h.1)
   unserved q host port path (ends.FileFault name) h =
@@ -85,7 +85,7 @@ module _ (w u x v : Storage) (part : IsPart w u x v) where
 
 -- ---- what was found of the name of a file
 
-pub spells_file : (q : List ℕ) (w v : Storage) (l : Listing) → IsTrue (is_file q) → Spells w v q l → Listed w.disk q l
+pub spells_file : (q : List ℕ) (w v : Storage) (l : Listing) → IsTrue (is_file q) → IndexSpells w v q l → Listed w.disk q l
 spells_file q w v l file h = subst (λ p. SpellsAt q p w v l) (place_of_file q (is_false (is_index_url q) file)) h
 
 pub not_spelled_file : (q : List ℕ) (w v : Storage) (o : Outcome) → IsTrue (is_file q) → NotSpelled w v q o → NotRead w.disk v.disk q o

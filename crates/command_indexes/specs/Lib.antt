@@ -1,3 +1,4 @@
 pub mod Places
 pub mod Gets
+pub mod Blames
 pub mod Spelled

@@ -4,7 +4,7 @@ use Rattle.std.specs.List.{Any}
 use Rattle.caibx_codec.specs.Listing.{Listing}
 use Rattle.command_outcome.specs.declared.outcome.Outcome.{Outcome}
 use Rattle.command_outcome.specs.declared.outcome.Outcome.TheVariants as ends
-use Rattle.command_steps.specs.Blames.{IndexRose}
+use Rattle.command_indexes.specs.Blames.{IndexRose}
 use Rattle.command_steps.specs.Dials.{since}
 use Rattle.command_steps.specs.InputFiles.{Listed, NotRead}
 use Rattle.command_steps.specs.Sources.{Storage}
@@ -34,22 +34,22 @@ SpellsAt q (Ok (places.Http host port path)) w v l = HasReplied host port path w
 SpellsAt q (Err why) w v l = ⊥
 
 -- from w to v the operand spelled this index
-abbrev pub Spells : Storage → Storage → List ℕ → Listing → Type 0
-Spells w v q l = SpellsAt q (index_place_of q) w v l
+abbrev pub IndexSpells : Storage → Storage → List ℕ → Listing → Type 0
+IndexSpells w v q l = SpellsAt q (index_place_of q) w v l
 
 -- why a server gave none
-abbrev pub NotServed : List ℕ → List ℕ → ℕ → List ℕ → Storage → Storage → Outcome → Type 0
-NotServed q host port path w v (ends.NoFile name) = (name ≡ q) × HasReplied host port path w v (Err fetch.Absent)
-NotServed q host port path w v (ends.BadIndex name fault) =
+abbrev pub NoneServed : List ℕ → List ℕ → ℕ → List ℕ → Storage → Storage → Outcome → Type 0
+NoneServed q host port path w v (ends.NoFile name) = (name ≡ q) × HasReplied host port path w v (Err fetch.Absent)
+NoneServed q host port path w v (ends.BadIndex name fault) =
     (name ≡ q) × HasReplied host port path w v (Err (fetch.Bad fault))
-NotServed q host port path w v (ends.FileFault name) =
+NoneServed q host port path w v (ends.FileFault name) =
     (name ≡ q) × IndexRose w.dial v.dial (Ok (places.Http host port path))
-NotServed q host port path w v ends.Memory = Unit {0}
-NotServed q host port path w v other = ⊥
+NoneServed q host port path w v ends.Memory = Unit {0}
+NoneServed q host port path w v other = ⊥
 
 abbrev pub NotSpelledAt : List ℕ → Result IndexPlace NoLocation → Storage → Storage → Outcome → Type 0
 NotSpelledAt q (Ok (places.File name)) w v o = NotRead w.disk v.disk q o
-NotSpelledAt q (Ok (places.Http host port path)) w v o = NotServed q host port path w v o
+NotSpelledAt q (Ok (places.Http host port path)) w v o = NoneServed q host port path w v o
 NotSpelledAt q (Err why) w v o = o ≡ ends.Memory
 
 -- it spelled none, for this reason

@@ -1,15 +1,11 @@
 -- Stores that are consulted in several steps.
-use Rattle.std.proofs.Common.{◌≡◌, ◌∙◌, ◌≤◌, ◌++◌, ℕ, IsTrue, List, [], ◌∷◌, Result, Ok, Err, refl, subst, inl, inr, arith}
+use Rattle.std.proofs.Common.{◌≡◌, ◌∙◌, ◌≤◌, ◌++◌, ℕ, IsTrue, List, [], ◌∷◌, refl, subst, inl, inr, arith}
 use Rattle.std.proofs.lemmas.Bool.{cases_lt}
 use Rattle.std.specs.Map.{count_at}
 use Rattle.command_words.specs.declared.command.Location.{Location}
 use Rattle.command_words.specs.declared.command.Location.TheVariants as locations
-use Rattle.command_words.specs.declared.location.IndexPlace.{IndexPlace}
-use Rattle.command_words.specs.declared.location.IndexPlace.TheVariants as places
-use Rattle.command_words.specs.declared.location.NoLocation.{NoLocation}
 use Rattle.command_steps.proofs.Dialed.{any_earlier, any_longer, dials_none, dials_twice}
 use Rattle.command_steps.proofs.Numbers.{rose_later, rose_longer}
-use Rattle.command_steps.specs.Blames.{IndexRose, IsUnfetched}
 use Rattle.command_steps.specs.Dials.{Dials}
 use Rattle.command_steps.specs.Sources.{Consults, ConsultsStores, Storage, StoreRose, server_at, storage}
 use Rattle.command_steps.specs.Stores.{are_folders}
@@ -39,14 +35,14 @@ pub consults_twice : (w u v : Storage) → Consults w u → Consults u v → Con
 consults_twice w u v a b = record { disk = reads_twice w.disk u.disk v.disk a.disk b.disk; dial = dials_twice w.dial u.dial v.dial a.dial b.dial }
 
 -- a rise of a count that stays at its greatest value, after other calls and before
-dialed_later : (a b c : ℕ) → raised a 0 ≤ b → Rose b c → Rose a c
+pub dialed_later : (a b c : ℕ) → raised a 0 ≤ b → Rose b c → Rose a c
 dialed_later a b c le (inl more) = elim (cases_lt a c) [
   | inl below ↦ inl below
   | inr at_least ↦ inr (omega (arith, le, more, at_least))
 ]
 dialed_later a b c le (inr full) = inr full
 
-dialed_longer : (a b c : ℕ) → raised b 0 ≤ c → Rose a b → Rose a c
+pub dialed_longer : (a b c : ℕ) → raised b 0 ≤ c → Rose a b → Rose a c
 dialed_longer a b c le (inl more) = elim (cases_lt a c) [
   | inl below ↦ inl below
   | inr at_least ↦ inr (omega (arith, le, more, at_least))
@@ -63,19 +59,6 @@ pub store_rose_longer : (w v u : Storage) → ((q : List ℕ) → count_at v.dis
 store_rose_longer w v u le a b (locations.Folder q) rose = rose_longer (count_at w.disk.folder_counts q) (count_at v.disk.folder_counts q) (count_at u.disk.folder_counts q) (le q) rose
 store_rose_longer w v u le a b (locations.Http host port prefix) (inl rose) = inl (dialed_longer w.dial.faults v.dial.faults u.dial.faults b.faults rose)
 store_rose_longer w v u le a b (locations.Http host port prefix) (inr bad) = inr (any_longer (IsUnacceptable (server_at host port prefix)) w.dial.ended v.dial.ended u.dial.ended a.ended b.ended bad)
-
--- and so where the index of a server wasn't fetched
-pub index_rose_later : (k i j : DialState) → Dials k i → Dials i j → (p : Result IndexPlace NoLocation) → IndexRose i j p → IndexRose k j p
-index_rose_later k i j a b (Ok (places.File name)) rose = rose
-index_rose_later k i j a b (Ok (places.Http host port path)) (inl rose) = inl (dialed_later k.faults i.faults j.faults a.faults rose)
-index_rose_later k i j a b (Ok (places.Http host port path)) (inr bad) = inr (any_earlier (IsUnfetched host port path) k.ended i.ended j.ended a.ended b.ended bad)
-index_rose_later k i j a b (Err why) rose = rose
-
-pub index_rose_longer : (k i j : DialState) → Dials k i → Dials i j → (p : Result IndexPlace NoLocation) → IndexRose k i p → IndexRose k j p
-index_rose_longer k i j a b (Ok (places.File name)) rose = rose
-index_rose_longer k i j a b (Ok (places.Http host port path)) (inl rose) = inl (dialed_longer k.faults i.faults j.faults b.faults rose)
-index_rose_longer k i j a b (Ok (places.Http host port path)) (inr bad) = inr (any_longer (IsUnfetched host port path) k.ended i.ended j.ended a.ended b.ended bad)
-index_rose_longer k i j a b (Err why) rose = rose
 
 -- ---- the stores of a command
 

@@ -4,7 +4,7 @@ use Rattle.std.proofs.lemmas.Bool.{cases_lt}
 use Rattle.std.proofs.lemmas.List.{get_or-map, length-map}
 use Rattle.std.specs.Map.{count_at}
 use Rattle.command_steps.proofs.Used.{all_more}
-use Rattle.command_steps.specs.Blames.{name_at}
+use Rattle.command_steps.specs.Seeds.{name_at}
 use Rattle.dsy_base.specs.Counts.{AllQuiet, Quiet, Rose, raised}
 use Rattle.dsy_base.specs.Maps.{Map}
 use Rattle.store_chain.specs.Faults.{EachQuiet}

@@ -9,7 +9,6 @@ pub mod Given
 pub mod Taken
 pub mod Cached
 pub mod Texts
-pub mod Fair
 pub mod SeedsOpened
 pub mod SeedsUsed
 pub mod SeedsRead

@@ -5,7 +5,6 @@ pub mod Dials
 pub mod Sources
 pub mod AnyStores
 pub mod TakenStores
-pub mod Blames
 pub mod Cache
 pub mod Seeds
 pub mod Asking

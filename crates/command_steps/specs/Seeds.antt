@@ -1,6 +1,6 @@
 -- Seeds: other images at hand, each named by its index. The index `X.caibx` is that of the image X.
 use Rattle.std.specs.Prelude.{◌≡◌, ◌⊎◌, ℕ, ◌+◌, ◌-◌, ◌<◌, ◌≤◌, List, [], ◌∷◌, ◌++◌, length, take, drop, codes}
-use Rattle.std.specs.Prelude.{Option, Some, None, IfSome, IsSome, if◌then◌else◌, unwrap_or, Result, Ok, Err}
+use Rattle.std.specs.Prelude.{Option, Some, None, IfSome, IsSome, if◌then◌else◌, slice_index_or, unwrap_or, Result, Ok, Err}
 use Rattle.std.specs.List.{All, AllZip, fold}
 use Rattle.std.specs.Option.{option_map}
 use Rattle.std.specs.Str.{bytes_eq}
@@ -21,6 +21,10 @@ use Rattle.extract_plan.specs.declared.seed.Seed.{Seed}
 -- the image whose index has this name
 abbrev pub image_name : List ℕ → List ℕ
 image_name q = if bytes_eq (drop (length q - 6) q) (codes ".caibx") then take (length q - 6) q else q
+
+-- the name of this number
+abbrev pub name_at : List (List ℕ) → ℕ → List ℕ
+name_at names k = slice_index_or names k []
 
 -- ---- their indexes
 

@@ -6,7 +6,7 @@ use Rattle.std.specs.Option.{option_map}
 use Rattle.caibx_codec.specs.Listing.{Listing, count_of, id_of}
 use Rattle.chunk_store.specs.Folders.{chunks}
 use Rattle.command_indexes.proofs.Spelled.{IsPart, spells_wider}
-use Rattle.command_indexes.specs.Spelled.{Spells}
+use Rattle.command_indexes.specs.Spelled.{IndexSpells}
 use Rattle.command_steps.proofs.Dialed.{dials_none, dials_same}
 use Rattle.command_steps.specs.Sources.{Storage, storage, storage_of}
 use Rattle.command_worlds.specs.Worlds.{World}
@@ -35,7 +35,7 @@ module _ (over : Evidence) where
 
     -- what each of the operands spelled is so
     abbrev pub SpelledSo : (List ℕ → Listing → Type 0) → List (List ℕ) → Type 0
-    SpelledSo P indexes = (q : List ℕ) → Contains indexes q → (l : Listing) → Spells w v q l → P q l
+    SpelledSo P indexes = (q : List ℕ) → Contains indexes q → (l : Listing) → IndexSpells w v q l → P q l
 
     module _ (P : List ℕ → Listing → Type 0) (g : Map (List ℕ)) where
       -- under each id of these indexes stand bytes of that name, by one of them; and under all others what stood there
@@ -94,7 +94,7 @@ was_there (Some m) cache held there was = go (m cache) refl there where
   go (Some f) is some = (f, is, sym was ∙ is)
 
 pub cached : (stores : List Location) (cache : List ℕ) (most : ℕ) (indexes : List (List ℕ)) (w v : World) → CacheEnds stores cache most indexes w (Ok tt) v
-    → IfSome w.disk.folders (λ f. IfSome v.disk.folders (λ g. IsCached (Spells (storage_of w) (storage_of v)) f g cache indexes))
+    → IfSome w.disk.folders (λ f. IfSome v.disk.folders (λ g. IsCached (IndexSpells (storage_of w) (storage_of v)) f g cache indexes))
 cached stores cache most indexes w v h =
     let reached = h.then in
     let filled = reached.then.0 in
@@ -111,7 +111,7 @@ cached stores cache most indexes w v h =
       counts = λ q. let a = opened.counts q in let b = looked.counts q in omega (arith, a, b);
       later = λ q. omega arith;
     } in
-    over_all over u (storage_of v) (Spells (storage_of w) (storage_of v)) cache indexes w.disk.folders v.disk.folders filled.held filled.now
+    over_all over u (storage_of v) (IndexSpells (storage_of w) (storage_of v)) cache indexes w.disk.folders v.disk.folders filled.held filled.now
     (λ q has l. spells_wider (storage_of w) u (storage_of v) (storage_of v) part q l)
     (was_there w.disk.folders cache filled.held (subst (λ (y : Option (Map (Map (List ℕ)))). IfSome y (λ m. IsSome (m cache))) opened.folders reached.did.0.0)
     (subst (λ (y : Option (Map (Map (List ℕ)))). IfSome y (λ m. m cache ≡ filled.held)) folders filled.was))

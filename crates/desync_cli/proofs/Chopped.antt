@@ -7,7 +7,7 @@ use Rattle.chunk_store.specs.Folders.{chunks}
 use Rattle.chunk_store.specs.Said.{KeepsOf}
 use Rattle.command_indexes.proofs.Got.{got_dials, got_reads}
 use Rattle.command_indexes.proofs.Spelled.{got_then}
-use Rattle.command_indexes.specs.Spelled.{Spells}
+use Rattle.command_indexes.specs.Spelled.{IndexSpells}
 use Rattle.command_steps.proofs.Dialed.{any_earlier}
 use Rattle.command_steps.specs.Dials.{Dials, EndedGrows, since}
 use Rattle.command_steps.specs.Sources.{said_at, server_at, storage, storage_of}
@@ -63,9 +63,9 @@ over_image Spelled index image l has (Some b) told listed there right store =
     (l, record { listed = listed; bytes = there.0; there = there.1; right = subst (λ o. IfSome o (λ t. IsRight t l)) there.2 right }, store there.0 there.2)
 
 pub chopped : (store : Location) (index image : List ℕ) (w v : World) → ChopEnds store index image w (Ok tt) v
-    → IfSome w.disk.files (λ b. (l : Listing) × IsChopped (Spells (storage_of w) (storage_of v)) b index image l × StoreHas (storage_of w) (storage_of v) store l)
+    → IfSome w.disk.files (λ b. (l : Listing) × IsChopped (IndexSpells (storage_of w) (storage_of v)) b index image l × StoreHas (storage_of w) (storage_of v) store l)
 chopped store index image w v h = go store h where
-  go : (store : Location) → ChopEnds store index image w (Ok tt) v → IfSome w.disk.files (λ b. (l : Listing) × IsChopped (Spells (storage_of w) (storage_of v)) b index image l × StoreHas (storage_of w) (storage_of v) store l)
+  go : (store : Location) → ChopEnds store index image w (Ok tt) v → IfSome w.disk.files (λ b. (l : Listing) × IsChopped (IndexSpells (storage_of w) (storage_of v)) b index image l × StoreHas (storage_of w) (storage_of v) store l)
   go (locations.Folder q) h =
       let l = h.gave in
       let opened = h.then in
@@ -77,7 +77,7 @@ chopped store index image w v h = go store h where
       let spells = got_then index (storage_of w) (storage h.disk h.dial) (storage_of v) l h.did.0 later in
       let folders = opened.did.0.1.folders ∙ got.folders in
       let among = subst (λ y. Given q index image l told held y v.disk.folders) (taken.did.0.1.0 ∙ ap (option_map (λ m. at_name m q None)) folders) taken.then.0.1 in
-      over_image (Spells (storage_of w) (storage_of v)) index image l (λ m. StoreHas (storage_of w) (storage_of v) (locations.Folder q) m) w.disk.files told spells
+      over_image (IndexSpells (storage_of w) (storage_of v)) index image l (λ m. StoreHas (storage_of w) (storage_of v) (locations.Folder q) m) w.disk.files told spells
       (subst (λ x. IfSome x (λ m. (t : List ℕ) × (m image ≡ Some t) × (told ≡ Some t))) got.files opened.did.0.0)
       taken.then.0.0
       (λ t is. in_folder q index image l t w.disk.folders held v.disk.folders (subst (λ y. IfSome y (λ m. (f : Map (List ℕ)) × (m q ≡ Some f) × (held ≡ Some f))) folders taken.did.0.0)
@@ -96,7 +96,7 @@ chopped store index image w v h = go store h where
       let said = subst (λ k. SaysAll l (count_of l) (said_at (storage w.disk k) (storage v.disk v.dial) s)) dial taken.then.0.1 in
       let says = says_more l (count_of l) (said_at (storage w.disk h.dial) (storage v.disk v.dial) s) (said_at (storage_of w) (storage_of v) s)
       (says_earlier (server_at host port prefix) w.dial.ended h.dial.ended v.dial.ended first.ended later.ended) said in
-      over_image (Spells (storage_of w) (storage_of v)) index image l (λ m. StoreHas (storage_of w) (storage_of v) s m) w.disk.files told spells
+      over_image (IndexSpells (storage_of w) (storage_of v)) index image l (λ m. StoreHas (storage_of w) (storage_of v) s m) w.disk.files told spells
       (subst (λ x. IfSome x (λ m. (t : List ℕ) × (m image ≡ Some t) × (told ≡ Some t))) got.files opened.did.0.0)
       taken.then.0.0
       (λ t is. says)

@@ -6,7 +6,7 @@ use Rattle.command_line.specs.CommandLine.{command_line}
 use Rattle.command_outcome.specs.declared.outcome.Outcome.{Outcome}
 use Rattle.command_outcome.specs.declared.outcome.Outcome.TheVariants as ends
 use Rattle.command_indexes.specs.Places.{are_files, is_file}
-use Rattle.command_steps.specs.Blames.{Parts}
+use Rattle.command_indexes.specs.Blames.{Parts}
 use Rattle.command_words.specs.declared.command.Command.{Command}
 use Rattle.command_words.specs.declared.command.Command.TheVariants as commands
 use Rattle.command_words.specs.declared.usage.WordsFault.{WordsFault}

@@ -15,7 +15,7 @@ use Rattle.command_outcome.specs.declared.outcome.Outcome.TheVariants as ends
 use Rattle.command_steps.specs.Cache.{CacheOpened}
 use Rattle.command_indexes.proofs.Spelled.{not_spelled_done, not_spelled_file, spells_file}
 use Rattle.command_indexes.specs.Places.{are_files, is_file}
-use Rattle.command_indexes.specs.Spelled.{NotSpelled, Spells}
+use Rattle.command_indexes.specs.Spelled.{NotSpelled, IndexSpells}
 use Rattle.command_steps.specs.InputFiles.{IsListed}
 use Rattle.command_steps.specs.Sources.{OnStorage, location_files, storage_of}
 use Rattle.command_steps.specs.Stores.{are_folders}
@@ -133,7 +133,7 @@ module _ (x : Contents) (w u v : World) (at : IsAt x w u) (quiet : IsQuiet w v) 
   file_here : (q : List ℕ) (indexes : List (List ℕ)) → IsSome_of (q ∷ indexes) → IsTrue (is_file q)
   file_here q indexes some = file_among indexes_all files q (some q (among_first q indexes))
 
-  listed_here : (q : List ℕ) (l : Listing) → IsTrue (is_file q) → Spells (storage_of u) (storage_of v) q l → IsListed x.files q l
+  listed_here : (q : List ℕ) (l : Listing) → IsTrue (is_file q) → IndexSpells (storage_of u) (storage_of v) q l → IsListed x.files q l
   listed_here q l file h = subst (λ y. IfSome y (λ m. IsListed m q l)) at.has.files (spells_file q (storage_of u) (storage_of v) l file h)
 
   among : (q : List ℕ) (indexes : List (List ℕ)) (l : Listing) → IsSome_of (q ∷ indexes) → IsListed x.files q l → (id : List ℕ) (n : ℕ) → ListsSize l id n → Listed (kind_of l) id n

@@ -5,7 +5,7 @@ use Rattle.caibx_codec.specs.Right.{IsRight}
 use Rattle.command_words.specs.declared.command.Location.{Location}
 use Rattle.command_indexes.proofs.Got.{got_reads}
 use Rattle.command_indexes.proofs.Spelled.{got_then}
-use Rattle.command_indexes.specs.Spelled.{Spells}
+use Rattle.command_indexes.specs.Spelled.{IndexSpells}
 use Rattle.command_steps.proofs.Cached.{cache_reads}
 use Rattle.command_steps.specs.Dials.{Dials}
 use Rattle.command_steps.specs.Sources.{storage, storage_of}
@@ -49,7 +49,7 @@ module _ (Spelled : List ℕ → Listing → Type 0) (names : List Location) (ca
       subst (λ o. IfSome o (λ a. IsExtracted Spelled a index out)) (sym is) made_so
 
 pub extracted : (sure : NeverFail) (stores : List Location) (cache : Option (List ℕ)) (seeds : List (List ℕ)) (place : Bool) (index out : List ℕ) (w v : World) → is_some w.disk.files ≡ is_some w.disk.folders → ExtractEnds sure stores cache seeds place index out w (Ok tt) v
-    → IfSome v.disk.files (λ a. IsExtracted (Spells (storage_of w) (storage_of v)) a index out)
+    → IfSome v.disk.files (λ a. IsExtracted (IndexSpells (storage_of w) (storage_of v)) a index out)
 extracted sure stores cache seeds true index out w v told h =
     let got = got_reads index (index_place_of index) (storage_of w) (Ok h.gave) (storage h.disk h.dial) h.did.0 in
     let made_so = h.then.then.then.then.0 in
@@ -62,7 +62,7 @@ extracted sure stores cache seeds true index out w v told h =
     let names = stores in
     let x : Seeds = record { images = map image_name seeds; listings = h.then.gave } in
     let made = subst (λ f. MadeOver names cache (in_place out) h.gave x d v.disk f d.folders v.disk.files) files made_so.0 in
-    over_files (Spells (storage_of w) (storage_of v)) names cache index out h.gave x d v.disk spells w.disk.files w.disk.folders v.disk.files told (made_so.2 ∙ ap is_some files)
+    over_files (IndexSpells (storage_of w) (storage_of v)) names cache index out h.gave x d v.disk spells w.disk.files w.disk.folders v.disk.files told (made_so.2 ∙ ap is_some files)
     (subst (λ y. MadeOver names cache (in_place out) h.gave x d v.disk w.disk.files y v.disk.files) folders made)
 extracted sure stores cache seeds false index out w v told h =
     let got = got_reads index (index_place_of index) (storage_of w) (Ok h.gave) (storage h.disk h.dial) h.did.0 in
@@ -78,5 +78,5 @@ extracted sure stores cache seeds false index out w v told h =
     let names = stores in
     let x : Seeds = record { images = map image_name seeds; listings = h.then.gave } in
     let made = subst (λ f. MadeOver names cache (beside out) h.gave x d c f d.folders c.files) files made_so.0 in
-    over_renamed (Spells (storage_of w) (storage_of v)) names cache index out h.gave x d c spells w.disk.files w.disk.folders c.files v.disk.files told (made_so.2 ∙ ap is_some files)
+    over_renamed (IndexSpells (storage_of w) (storage_of v)) names cache index out h.gave x d c spells w.disk.files w.disk.folders c.files v.disk.files told (made_so.2 ∙ ap is_some files)
     (subst (λ y. MadeOver names cache (beside out) h.gave x d c w.disk.files y c.files) folders made) last.0.0

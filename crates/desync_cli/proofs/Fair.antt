@@ -13,7 +13,7 @@ use Rattle.command_outcome.specs.declared.outcome.Outcome.{Outcome}
 use Rattle.command_outcome.specs.declared.outcome.Outcome.TheVariants as ends
 use Rattle.command_indexes.proofs.Fair.{got_step, indexes_got_step, not_spelled_fair}
 use Rattle.command_indexes.specs.Places.{are_files, is_file}
-use Rattle.command_steps.specs.Blames.{Blames, IndexRose, IsUnfetched, Keeps, Parts, Spares}
+use Rattle.command_indexes.specs.Blames.{Blames, IndexRose, IsUnfetched, Keeps, Parts, Spares}
 use Rattle.command_words.specs.declared.command.Command.{Command}
 use Rattle.command_words.specs.declared.command.Command.TheVariants as commands
 use Rattle.command_words.specs.declared.command.Location.{Location}
@@ -28,7 +28,7 @@ use Rattle.desync_cli.specs.Unfailed.{FetchTaken, IndexTaken, NothingFailed, Rep
 use Rattle.command_worlds.specs.Steps.{Passed, answer_of, outcome_of}
 use Rattle.command_worlds.specs.Worlds.{FileRose, FolderRose, NoFault, Step, World, Writes, world}
 use Rattle.command_steps.proofs.Dialed.{dials_same}
-use Rattle.command_steps.proofs.Fair.{IsFair, IsLeft, IsRefusal, IsStep, Unread, adds, behind, between, bound, consults, cache_step, fair_longer, image_step, indexes_step, left_twice, on_disk, on_out, on_sources, printed_step, pure_step, reads, round, source_failed, source_taken_step, sources_fair, sources_step, taken_step, whole, writes}
+use Rattle.command_indexes.proofs.FairSteps.{IsFair, IsLeft, IsRefusal, IsStep, Unread, adds, behind, between, bound, consults, cache_step, fair_longer, image_step, indexes_step, left_twice, on_disk, on_out, on_sources, printed_step, pure_step, reads, round, source_failed, source_taken_step, sources_fair, sources_step, taken_step, whole, writes}
 use Rattle.command_steps.proofs.Numbers.{rose_not_quiet}
 use Rattle.cache_command.specs.Caching.{EndsFilling, FillTells, IndexesFilled, NotFilled, of_command, outcome_of_fill}
 use Rattle.cat_command.specs.Cat.{RangePut, range_size}

@@ -10,7 +10,7 @@ use Rattle.command_outcome.specs.declared.outcome.Outcome.TheVariants as ends
 use Rattle.command_steps.specs.Cache.{CacheOpened}
 use Rattle.command_indexes.proofs.Got.{got_not_spelled}
 use Rattle.command_indexes.specs.Gets.{IndexGot, IndexesGot}
-use Rattle.command_indexes.specs.Spelled.{NotServed, NotSpelledAt}
+use Rattle.command_indexes.specs.Spelled.{NoneServed, NotSpelledAt}
 use Rattle.command_steps.specs.InputFiles.{ImageOpened, NotOpened, NotRead}
 use Rattle.command_worlds.specs.Printing.{Printed}
 use Rattle.command_steps.specs.Seeds.{CountedWith, IndexesRead, NoneListed}
@@ -89,7 +89,7 @@ module _ (n : ℕ) where
   not_read q le d e ends.Memory h = omega arith
   not_read q le d e other h = absurd h
 
-  not_served : (q : List ℕ) → length q ≤ n → (host : List ℕ) (port : ℕ) (path : List ℕ) (w v : Storage) (o : Outcome) → NotServed q host port path w v o → length (name_in o) ≤ n
+  not_served : (q : List ℕ) → length q ≤ n → (host : List ℕ) (port : ℕ) (path : List ℕ) (w v : Storage) (o : Outcome) → NoneServed q host port path w v o → length (name_in o) ≤ n
   not_served q le host port path w v (ends.NoFile name) h = short_as n name q h.0 le
   not_served q le host port path w v (ends.BadIndex name fault) h = short_as n name q h.0 le
   not_served q le host port path w v (ends.FileFault name) h = short_as n name q h.0 le

@@ -5,7 +5,7 @@ use Rattle.std.specs.Option.{option_map}
 use Rattle.caibx_codec.specs.Listing.{Listing}
 use Rattle.chunk_store.specs.declared.id.DigestKind.{DigestKind}
 use Rattle.command_indexes.proofs.AllGot.{all_left, all_spelled}
-use Rattle.command_indexes.specs.Spelled.{Spells}
+use Rattle.command_indexes.specs.Spelled.{IndexSpells}
 use Rattle.command_steps.proofs.Dialed.{dials_same}
 use Rattle.command_steps.specs.Sources.{storage_of}
 use Rattle.command_worlds.specs.Worlds.{World, world}
@@ -40,13 +40,13 @@ module _ (Spelled : List ℕ → Listing → Type 0) (store : List ℕ) (indexes
   }
 
 pub pruned_to : (store : List ℕ) (indexes : List (List ℕ)) (w v : World) → PruneEnds store indexes w (Ok tt) v
-    → IfSome w.disk.folders (λ f. IfSome v.disk.folders (λ g. IsPruned (Spells (storage_of w) (storage_of v)) f g store indexes))
+    → IfSome w.disk.folders (λ f. IfSome v.disk.folders (λ g. IsPruned (IndexSpells (storage_of w) (storage_of v)) f g store indexes))
 pruned_to store indexes w v h =
     let taken = h.then in
     let between = taken.then.0.0 in
     let folders = (all_left 0 indexes w h.gave (world h.disk h.dial h.out) h.did).reads.folders in
     let spelled = all_spelled 0 indexes w h.gave (world h.disk h.dial h.out) (storage_of v) h.did (dials_same h.dial v.dial (taken.then.1 ∙ taken.did.1)) in
-    pruned_over (Spells (storage_of w) (storage_of v)) store indexes h.gave w.disk.folders v.disk.folders taken.gave between.files spelled
+    pruned_over (IndexSpells (storage_of w) (storage_of v)) store indexes h.gave w.disk.folders v.disk.folders taken.gave between.files spelled
     (subst (λ (y : Option (Map (Map (List ℕ)))). Taken store y taken.gave) folders taken.did.0.0)
     (between.back ∙ ap (option_map (λ (m : Map (Map (List ℕ))). at_name m store between.files)) (taken.did.0.1.0 ∙ ap (option_map (λ (m : Map (Map (List ℕ))). at_name m store None)) folders))
     between.change

@@ -29,8 +29,8 @@ use Rattle.server_commands.specs.IndexServing.{IndexServerEnds}
 use Rattle.server_commands.specs.Serving.{Heard}
 use Rattle.store_commands.specs.Verify.{IsVerifiedStore, VerifyEnds}
 use Rattle.command_indexes.specs.Places.{are_files, is_file}
-use Rattle.command_indexes.specs.Spelled.{Spells}
-use Rattle.command_steps.specs.Blames.{Parts, Spares, unheard}
+use Rattle.command_indexes.specs.Spelled.{IndexSpells}
+use Rattle.command_indexes.specs.Blames.{Parts, Spares, unheard}
 use Rattle.command_worlds.specs.Printing.{Printed}
 use Rattle.command_steps.specs.Sources.{storage_of}
 use Rattle.command_worlds.specs.Steps.{◌>>=◌}
@@ -134,20 +134,20 @@ Achieves sure h (commands.Make store sizes workers digest index image) w v =
     IfSome w.disk.files (λ b. IfSome v.disk.files (λ a. (l : Listing)
     × IsMade b a digest sizes index image l × StoreHas (storage_of w) (storage_of v) store l))
 Achieves sure h (commands.VerifyIndex workers index image) w v =
-    IfSome w.disk.files (λ m. IsVerified (Spells (storage_of w) (storage_of v)) m index image)
+    IfSome w.disk.files (λ m. IsVerified (IndexSpells (storage_of w) (storage_of v)) m index image)
 Achieves sure h (commands.Chop store workers index image) w v = IfSome w.disk.files (λ b. (l : Listing)
-    × IsChopped (Spells (storage_of w) (storage_of v)) b index image l × StoreHas (storage_of w) (storage_of v) store l)
+    × IsChopped (IndexSpells (storage_of w) (storage_of v)) b index image l × StoreHas (storage_of w) (storage_of v) store l)
 Achieves sure h (commands.Cache stores cache workers indexes) w v =
     IfSome w.disk.folders (λ f. IfSome v.disk.folders (λ g.
-    IsCached (Spells (storage_of w) (storage_of v)) f g cache indexes))
+    IsCached (IndexSpells (storage_of w) (storage_of v)) f g cache indexes))
 Achieves sure h (commands.Extract stores seeds cache in_place workers index target) w v =
-    IfSome v.disk.files (λ a. IsExtracted (Spells (storage_of w) (storage_of v)) a index target)
+    IfSome v.disk.files (λ a. IsExtracted (IndexSpells (storage_of w) (storage_of v)) a index target)
 Achieves sure h (commands.Verify store repair workers digest) w v =
     IfSome w.disk.folders (λ f. IfSome v.disk.folders (λ g.
     IsVerifiedStore digest f g w.out.taken v.out.taken store repair))
 Achieves sure h (commands.Prune store indexes) w v =
     IfSome w.disk.folders (λ f. IfSome v.disk.folders (λ g.
-    IsPruned (Spells (storage_of w) (storage_of v)) f g store indexes))
+    IsPruned (IndexSpells (storage_of w) (storage_of v)) f g store indexes))
 Achieves sure h other w v = CommandEnds sure h other w (Ok tt) v
 
 -- a refusal leaves all files as they were, but for the temporary one

@@ -20,7 +20,7 @@ use Rattle.command_help.specs.declared.help.Topic.TheVariants as topics
 use Rattle.command_outcome.specs.declared.outcome.Outcome.{Outcome}
 use Rattle.command_outcome.specs.declared.outcome.Outcome.TheVariants as ends
 use Rattle.command_indexes.specs.Places.{are_files}
-use Rattle.command_steps.specs.Blames.{Parts}
+use Rattle.command_indexes.specs.Blames.{Parts}
 use Rattle.command_steps.specs.InputFiles.{IsListed}
 use Rattle.command_steps.specs.Seeds.{image_name}
 use Rattle.command_steps.specs.Stores.{are_folders, folder_name}

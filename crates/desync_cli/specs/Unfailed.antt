@@ -3,7 +3,7 @@ use Rattle.std.specs.Prelude.{IsSomeAnd, List, Result, Ok, ℕ}
 use Rattle.std.specs.List.{Any}
 use Rattle.command_outcome.specs.declared.outcome.Outcome.{Outcome}
 use Rattle.command_outcome.specs.declared.outcome.Outcome.TheVariants as ends
-use Rattle.command_steps.specs.Blames.{IsUnfetched}
+use Rattle.command_indexes.specs.Blames.{IsUnfetched}
 use Rattle.command_steps.specs.Dials.{since}
 use Rattle.command_steps.specs.Sources.{server_at}
 use Rattle.command_worlds.specs.Worlds.{World}

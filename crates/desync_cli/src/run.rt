@@ -3,7 +3,7 @@
 ghost use Rattle.std.specs.Prelude.{◌≡◌, ◌≢◌, ◌⊎◌, All, None, Some, IfSome, false, map, string_bytes};
 ghost use Rattle.command_outcome.specs.ErrorLines.{error_line_of};
 ghost use Rattle.command_outcome.specs.Statuses.{status_of};
-ghost use Rattle.command_steps.specs.Blames.{Blames, Keeps};
+ghost use Rattle.command_indexes.specs.Blames.{Blames, Keeps};
 ghost use Rattle.command_words.specs.Limits.{Fits};
 ghost use Rattle.command_words.specs.declared.command.Command.{Command};
 ghost use Rattle.desync_cli.specs.AtHand.{EndsAtHand};

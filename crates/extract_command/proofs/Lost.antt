@@ -24,7 +24,7 @@ use Rattle.chunk_store.specs.declared.shows.Shows.{Shows}
 use Rattle.command_words.specs.declared.command.Location.{Location}
 use Rattle.command_steps.proofs.Given.{Stands}
 use Rattle.command_steps.proofs.Numbers.{rose_longer}
-use Rattle.command_steps.specs.Blames.{name_at}
+use Rattle.command_steps.specs.Seeds.{name_at}
 use Rattle.command_steps.specs.Seeds.{IsViewed}
 use Rattle.command_steps.specs.Sources.{HaveLacked, Storage, StoreRose, said_at, location_files}
 use Rattle.command_worlds.specs.Worlds.{FileRose}

@@ -26,7 +26,7 @@ use Rattle.command_steps.proofs.Lent.{each_quiet, store_rose}
 use Rattle.command_steps.proofs.Numbers.{given_quiet, given_rose, rose_longer, rose_not_quiet}
 use Rattle.command_steps.specs.AnyStores.{IsGiven, location_in, place_in, said_in, source_faults, source_files, with_those}
 use Rattle.command_steps.specs.Asking.{AsksFew, EachDialed, SendsFronts, WorkersDialed}
-use Rattle.command_steps.specs.Blames.{name_at}
+use Rattle.command_steps.specs.Seeds.{name_at}
 use Rattle.command_steps.specs.Cache.{CacheGiven, folders_with, with_cache}
 use Rattle.command_steps.specs.Seeds.{label_in}
 use Rattle.command_steps.specs.Sources.{Consults, Storage, location_files, storage}

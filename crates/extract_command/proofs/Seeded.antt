@@ -9,7 +9,7 @@ use Rattle.chunk_sources.specs.Sources.{GivesAt, HeldAt, SeedsFailed, SeedsGive}
 use Rattle.chunk_store.specs.Names.{name_of}
 use Rattle.chunk_store.specs.declared.id.DigestKind.{DigestKind}
 use Rattle.chunk_store.specs.declared.id.DigestKind.TheVariants as kinds
-use Rattle.command_steps.specs.Blames.{name_at}
+use Rattle.command_steps.specs.Seeds.{name_at}
 use Rattle.command_steps.specs.InputFiles.{Holds}
 use Rattle.command_steps.specs.Seeds.{IsViewed, SeedsKnown, label_in}
 use Rattle.command_worlds.specs.Worlds.{FileRose}

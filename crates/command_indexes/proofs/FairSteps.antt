@@ -6,7 +6,7 @@ use Rattle.caibx_codec.specs.Listing.{Listing, count_of}
 use Rattle.chunk_store.specs.Said.{Said}
 use Rattle.command_outcome.specs.declared.outcome.Outcome.{Outcome}
 use Rattle.command_outcome.specs.declared.outcome.Outcome.TheVariants as ends
-use Rattle.command_steps.specs.Blames.{Blames, Keeps, Parts, Spares}
+use Rattle.command_indexes.specs.Blames.{Blames, Keeps, Parts, Spares}
 use Rattle.command_steps.specs.Cache.{CacheOpened}
 use Rattle.command_steps.specs.InputFiles.{ImageOpened, IndexRead, NotRead}
 use Rattle.command_worlds.specs.Printing.{Printed}
@@ -21,7 +21,8 @@ use Rattle.command_words.specs.Locations.{index_place_of}
 use Rattle.command_words.specs.declared.command.Location.{Location}
 use Rattle.command_words.specs.declared.command.Location.TheVariants as locations
 use Rattle.command_steps.proofs.Cached.{cache_reads}
-use Rattle.command_steps.proofs.Consulted.{index_rose_later, index_rose_longer, store_rose_later, store_rose_longer}
+use Rattle.command_indexes.proofs.Rises.{index_rose_later, index_rose_longer}
+use Rattle.command_steps.proofs.Consulted.{store_rose_later, store_rose_longer}
 use Rattle.command_steps.proofs.Dialed.{dials_none, dials_twice}
 use Rattle.command_steps.proofs.Numbers.{rose_later, rose_longer}
 use Rattle.dsy_base.specs.Disk.{Disk, Output}

@@ -1,5 +1,5 @@
 -- What holds of each command over the world before it and after it: what it spares, and whose fault it tells.
-use Rattle.std.specs.Prelude.{◌≡◌, ◌⊎◌, ℕ, Bool, IsTrue, List, slice_index_or, [], IfSome, Result, Ok, Err}
+use Rattle.std.specs.Prelude.{◌≡◌, ◌⊎◌, ℕ, Bool, IsTrue, List, IfSome, Result, Ok, Err}
 use Rattle.std.specs.List.{Any, Contains}
 use Rattle.command_outcome.specs.declared.outcome.Outcome.{Outcome}
 use Rattle.command_outcome.specs.declared.outcome.Outcome.TheVariants as ends
@@ -44,10 +44,6 @@ pub record Parts : Type 0 where
 -- no listener was used
 abbrev pub unheard : ℕ × ℕ
 unheard = (0, 0)
-
--- the name of this number
-abbrev pub name_at : List (List ℕ) → ℕ → List ℕ
-name_at names k = slice_index_or names k []
 
 -- it is the reply that wasn't taken
 abbrev pub IsUntaken : FetchFault → Type 0
