@@ -2,8 +2,6 @@
 #![tactic(auto)]
 
 #[cfg(test)]
-mod compare;
-#[cfg(test)]
 mod fill_tests;
 #[cfg(test)]
 mod further_tests;

@@ -149,8 +149,8 @@ module _ (over : Evidence) where
   module _ (w v : Storage) where
     abbrev pub AllFilled : List (List ℕ) → Option (Map (List ℕ)) → Option (Map (List ℕ)) → Type 0
     AllFilled [] x y = y ≡ x
-    AllFilled (q ∷ indexes) x y = (l : Listing) × IndexSpells w v q l × (z : Option (Map (List ℕ))) × IndexFilled l x z (Ok tt)
-        × AllFilled indexes z y
+    AllFilled (q ∷ indexes) x y = (l : Listing) × IndexSpells w v q l × (z : Option (Map (List ℕ)))
+        × IndexFilled l x z (Ok tt) × AllFilled indexes z y
 
     -- the first index that wasn't had, or by which the cache couldn't be filled
     abbrev pub NotFilled : List (List ℕ) → Option (Map (List ℕ)) → Option (Map (List ℕ)) → Outcome → Type 0

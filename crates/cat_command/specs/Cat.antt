@@ -13,8 +13,8 @@ use Rattle.command_outcome.specs.declared.outcome.Outcome.{Outcome}
 use Rattle.command_outcome.specs.declared.outcome.Outcome.TheVariants as ends
 use Rattle.command_steps.specs.Asking.{AsksOnly, EachDialed}
 use Rattle.command_indexes.specs.Gets.{IndexGot}
-use Rattle.command_steps.specs.Sources.{ConsultsStores, HaveLacked, OnStorage, Storage, SourcesOpened, said_at, location_files}
-use Rattle.command_steps.specs.Sources.{storage_of}
+use Rattle.command_steps.specs.Sources.{ConsultsStores, HaveLacked, OnStorage, Storage, SourcesOpened, said_at}
+use Rattle.command_steps.specs.Sources.{location_files, storage_of}
 use Rattle.command_words.specs.declared.command.Location.{Location}
 use Rattle.command_worlds.specs.Steps.{◌>>=◌}
 use Rattle.command_worlds.specs.Worlds.{OnDisk, Step, World}

@@ -120,13 +120,16 @@ assembled_step sure o x p cache l z i is = record { fair = fair; leaves = λ w v
 -- ---- the steps of `cat`
 
 put_step : (x : Parts) (l : Listing) (at n : ℕ) → IsStep whole (record { files = true; folders = true; dial = are_folders x.stores; out = false }) x (RangePut x.stores l at n)
-put_step x l at n = record { fair = fair; leaves = λ w v r h. record {
-  keeps = record { files = λ t. h.1.0.disk.files; folders = λ t. h.1.0.disk.folders; dial = h.1.1; out = λ t. absurd (cc) };
-  files = h.1.0.disk.counts;
-  folders = h.1.0.disk.folder_counts;
-  dial = h.1.0.dial;
-  out = h.3;
-} } where
+put_step x l at n = record {
+  fair = fair;
+  leaves = λ w v r h. record {
+    keeps = record { files = λ t. h.1.0.disk.files; folders = λ t. h.1.0.disk.folders; dial = h.1.1; out = λ t. absurd (cc) };
+    files = h.1.0.disk.counts;
+    folders = h.1.0.disk.folder_counts;
+    dial = h.1.0.dial;
+    out = h.3;
+  };
+} where
   fair : (w v : World) (o : Outcome) → RangePut x.stores l at n w (Err o) v → IsFair x o w v
   fair w v (ends.Missing k id) h = (tt, tt)
   fair w v (ends.Damaged k id store shows) h = (tt, tt)

@@ -127,8 +127,8 @@ parts h (commands.IndexServer store host port writable) = record
     { image = []; indexes = []; stores = []; target = []; cache = []; listener = (h.old.faults, h.new.faults) }
 parts h other = record { image = []; indexes = []; stores = []; target = []; cache = []; listener = unheard }
 
--- what Done says of it, beside how it ends. An INDEX that is a URL spells what the body of an accepted reply 200 spells,
--- if the dialer tells its connections
+-- what Done says of it, beside how it ends. An INDEX that is a URL spells what the body of an accepted reply 200
+-- spells, if the dialer tells its connections
 abbrev pub Achieves : Bool → Heard → Command → World → World → Type 0
 Achieves sure h (commands.Make store sizes workers digest index image) w v =
     IfSome w.disk.files (λ b. IfSome v.disk.files (λ a. (l : Listing)
@@ -136,7 +136,8 @@ Achieves sure h (commands.Make store sizes workers digest index image) w v =
 Achieves sure h (commands.VerifyIndex workers index image) w v =
     IfSome w.disk.files (λ m. IsVerified (IndexSpells (storage_of w) (storage_of v)) m index image)
 Achieves sure h (commands.Chop store workers index image) w v = IfSome w.disk.files (λ b. (l : Listing)
-    × IsChopped (IndexSpells (storage_of w) (storage_of v)) b index image l × StoreHas (storage_of w) (storage_of v) store l)
+    × IsChopped (IndexSpells (storage_of w) (storage_of v)) b index image l
+    × StoreHas (storage_of w) (storage_of v) store l)
 Achieves sure h (commands.Cache stores cache workers indexes) w v =
     IfSome w.disk.folders (λ f. IfSome v.disk.folders (λ g.
     IsCached (IndexSpells (storage_of w) (storage_of v)) f g cache indexes))

@@ -1,6 +1,6 @@
 //! Claims on the items of a round.
 
-use crate::compare::same;
+use asserts::same;
 use read_ahead::claims::Claims;
 use std::process::Abort;
 

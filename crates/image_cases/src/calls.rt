@@ -1,6 +1,6 @@
 //! Calls in memory that fail, by their numbers from 0.
 
-use crate::compare::ok;
+use asserts::ok;
 use std::alloc::Global;
 use std::process::Abort;
 

@@ -2,8 +2,6 @@
 #![tactic(auto)]
 
 #[cfg(test)]
-mod compare;
-#[cfg(test)]
 mod fetch_tests;
 #[cfg(test)]
 mod index_of_abc;

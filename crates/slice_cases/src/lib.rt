@@ -5,8 +5,6 @@
 mod check_tests;
 #[cfg(test)]
 mod chop_tests;
-#[cfg(test)]
-mod compare;
 pub mod gate;
 #[cfg(test)]
 mod images;

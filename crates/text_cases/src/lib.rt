@@ -3,8 +3,6 @@
 #![tactic(auto)]
 
 #[cfg(test)]
-mod compare;
-#[cfg(test)]
 mod gate_tests;
 #[cfg(test)]
 mod help_tests;

@@ -1,4 +1,5 @@
 //! What tests compare. What differs ends the test, and is printed.
+#![tactic(auto)]
 
 ghost use Rattle.std.specs.Prelude.{◌≡◌, Ok};
 

@@ -1,0 +1,5 @@
+pub mod Held
+pub mod Sure
+pub mod Stepped
+pub mod Sought
+pub mod Exact
