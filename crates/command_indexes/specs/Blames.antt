@@ -24,6 +24,7 @@ pub record Spares : Type 0 where
   pub dial : Bool
   pub out : Bool
 
+-- what is spared is as before
 pub record Keeps (s : Spares) (w v : World) : Type 0 where
   pub files : IsTrue s.files → v.disk.files ≡ w.disk.files
   pub folders : IsTrue s.folders → v.disk.folders ≡ w.disk.folders
