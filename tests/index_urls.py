@@ -141,7 +141,6 @@ def refused(cases):
                 ('no reply of HTTP', b'hello\r\n\r\n', 'failed'),
                 ('a body with a byte less than was told', reply(200, right)[:-1], 'failed'),
                 ('a body in chunks without its end', in_chunks(right)[:-5], 'failed'),
-                ('a compressed body', reply(200, right, 'Content-Encoding: gzip'), 'failed'),
                 ('a body longer than any index', longer, 'failed'),
                 ('an index that lacks its last byte', reply(200, right[:-1]),
                  f'bad index: truncated at byte {len(right) - 1}'),
