@@ -3,8 +3,8 @@
 ghost use Rattle.std.specs.Prelude.{◌≡◌};
 ghost use Rattle.chunk_store.specs.declared.id.DigestKind.TheVariants as kinds;
 
+use crate::compare::{ok, same};
 use crate::indexes::{ABC, ABX, DEF, id_of, index_of};
-use asserts::{ok, same};
 use cache_fill::fill::{FillFault, fill};
 use cache_store::cached::Cached;
 use cache_store::shelf::CacheShelf;

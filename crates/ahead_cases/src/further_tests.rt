@@ -4,9 +4,9 @@
 ghost use Rattle.std.specs.Prelude.{◌≡◌, ◌∷◌, [], All, None, map};
 ghost use Rattle.chunk_store.specs.declared.id.DigestKind.TheVariants as kinds;
 
+use crate::compare::{ok, same};
 use crate::gated_folder::{Gate, GatedFolder};
 use crate::indexes::{ABC, DEF, GHI, JKL, MNO, PQR, id_of, index_of};
-use asserts::{ok, same};
 use cache_fill::fill::{FillFault, fill};
 use cache_store::cached::Cached;
 use cache_store::shelf::CacheShelf;

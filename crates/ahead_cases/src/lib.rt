@@ -2,6 +2,8 @@
 #![tactic(auto)]
 
 #[cfg(test)]
+mod compare;
+#[cfg(test)]
 mod fill_tests;
 #[cfg(test)]
 mod further_tests;

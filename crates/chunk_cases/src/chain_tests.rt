@@ -2,8 +2,8 @@
 
 ghost use Rattle.std.specs.Prelude.{◌≤◌, IfSome};
 
+use crate::compare::{ok, same};
 use crate::digests::{ABC, ABC_256, NOTHING};
-use asserts::{ok, same};
 use chunk_store::id::{ChunkId, DigestKind};
 use chunk_store::shows::Shows;
 use dsy_base::fault::IoFault;

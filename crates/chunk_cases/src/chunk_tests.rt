@@ -2,8 +2,8 @@
 
 ghost use Rattle.std.specs.Prelude.{◌≤◌};
 
+use crate::compare::{ok, same};
 use crate::digests::{ABC, ABC_256, ABC_PATH, NOTHING};
-use asserts::{ok, same};
 use chunk_store::id::{ChunkId, DigestKind, NotHex};
 use chunk_store::mem_store::MemStore;
 use chunk_store::range::name_range;

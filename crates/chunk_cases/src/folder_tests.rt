@@ -1,6 +1,6 @@
 //! Folder stores over folders in memory, through the bounds of their trait.
 
-use asserts::{ok, same};
+use crate::compare::{ok, same};
 use chunk_store::id::{ChunkId, DigestKind};
 use chunk_store::store::{GetFault, Store, StoreWrite};
 use dir_store::names::is_temporary;

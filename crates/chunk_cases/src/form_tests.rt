@@ -1,7 +1,7 @@
 //! Tests of the forms in memory. Those that hold of every form go through the bounds of its trait.
 
+use crate::compare::{ok, same};
 use crate::ranges::{holds, reads, writes};
-use asserts::{ok, same};
 use byte_forms::calls::Fails;
 use byte_forms::mem_target::MemTarget;
 use byte_forms::mem_view::MemView;

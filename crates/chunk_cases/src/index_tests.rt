@@ -1,7 +1,7 @@
 //! Index files by the bytes of two images, whole, cut short and with single bytes changed. Places
 //! are offsets in the file.
 
-use asserts::{ok, same};
+use crate::compare::{ok, same};
 use byte_forms::mem_view::MemView;
 use caibx_codec::index::{Entry, Index};
 use caibx_codec::reader::IndexReader;

@@ -7,6 +7,8 @@ mod chain_tests;
 #[cfg(test)]
 mod chunk_tests;
 #[cfg(test)]
+mod compare;
+#[cfg(test)]
 mod digests;
 #[cfg(test)]
 mod folder_tests;

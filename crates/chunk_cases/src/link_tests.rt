@@ -4,7 +4,7 @@ ghost use Rattle.std.specs.List.{All};
 ghost use Rattle.dsy_base.specs.Links.{IsFreshLink};
 ghost use Rattle.link_forms.specs.MemLinks.{link_of};
 
-use asserts::{ok, same};
+use crate::compare::{ok, same};
 use dsy_base::dial::Dial;
 use dsy_base::fault::{Failed, IoFault};
 use dsy_base::link::Link;

@@ -1,6 +1,6 @@
 //! Plans of small indexes, and where seeds list their chunks. Entries are named by one letter each.
 
-use asserts::{ok, same};
+use crate::compare::{ok, same};
 use byte_forms::mem_view::MemView;
 use caibx_codec::index::{Entry, Index};
 use chunk_store::id::{ChunkId, DigestKind};

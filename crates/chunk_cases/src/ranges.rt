@@ -1,6 +1,6 @@
 //! Ranges of what is read and written by place. Offsets are bytes from 0.
 
-use asserts::{ok, same};
+use crate::compare::{ok, same};
 use dsy_base::view::{Part, View};
 use std::alloc::Global;
 use std::process::Abort;

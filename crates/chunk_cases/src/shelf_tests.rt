@@ -3,8 +3,8 @@
 ghost use Rattle.std.specs.Prelude.{◌≡◌, ◌≤◌};
 ghost use Rattle.chunk_store.specs.declared.id.DigestKind.TheVariants as kinds;
 
+use crate::compare::{ok, same};
 use crate::digests::{ABC, ABC_256, ABC_PATH, NOTHING};
-use asserts::{ok, same};
 use cache_store::cached::{Cached, Got, Kept, obtain_through};
 use cache_store::shelf::{CacheMiss, CacheShelf};
 use chunk_store::id::{ChunkId, DigestKind};

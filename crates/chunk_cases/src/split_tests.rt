@@ -3,8 +3,8 @@
 ghost use Rattle.std.specs.Prelude.{◌≡◌, IfSome, length};
 ghost use Rattle.std.specs.List.{sum_by};
 
+use crate::compare::{ok, same};
 use crate::ranges::{holds, writes};
-use asserts::{ok, same};
 use byte_forms::mem_target::MemTarget;
 use byte_forms::ranges::RangeFails;
 use dsy_base::fault::SplitFault;

@@ -1,7 +1,7 @@
 //! Tests of the forms in memory that never fail.
 
+use crate::compare::{ok, same};
 use crate::ranges::{ends_in, writes};
-use asserts::{ok, same};
 use dsy_base::fault::{FileFault, OpenFault};
 use dsy_base::files::Files;
 use dsy_base::folder::Folder;

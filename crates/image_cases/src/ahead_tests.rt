@@ -1,6 +1,6 @@
 //! Claims on the items of a round.
 
-use asserts::same;
+use crate::compare::same;
 use read_ahead::claims::Claims;
 use std::process::Abort;
 

@@ -3,9 +3,9 @@
 ghost use Rattle.std.specs.Prelude.{◌≡◌, length, IfSome};
 ghost use Rattle.chunk_store.specs.declared.id.DigestKind.TheVariants as kinds;
 
+use crate::compare::{ok, same};
 use crate::indexes::{id_of_piece, index_of_pieces};
 use assembler::fault::ExtractFault;
-use asserts::{ok, same};
 use byte_forms::mem_target::MemTarget;
 use byte_forms::mem_view::MemView;
 use byte_forms::ranges::RangeFails;

@@ -1,6 +1,6 @@
 //! Calls in memory that fail, by their numbers from 0.
 
-use asserts::ok;
+use crate::compare::ok;
 use std::alloc::Global;
 use std::process::Abort;
 

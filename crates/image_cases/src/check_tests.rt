@@ -2,8 +2,8 @@
 //! another program.
 
 use crate::calls::fails;
+use crate::compare::{ok, same};
 use crate::indexes::{ABC, ABX, DEF, DEX, id_of, index_of};
-use asserts::{ok, same};
 use byte_forms::mem_view::MemView;
 use caibx_codec::index::Index;
 use dsy_base::fault::{Failed, IoFault};

@@ -1,6 +1,6 @@
 //! Images by the worked examples.
 
-use asserts::{ok, same};
+use crate::compare::{ok, same};
 use chunk_store::id::DigestKind;
 use image_demo::bytes;
 use image_demo::demo::demo_figures;

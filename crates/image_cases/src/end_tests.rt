@@ -1,7 +1,7 @@
 //! Cutting by vectors, and by what another program answers. Offsets and sizes are in bytes.
 
+use crate::compare::{ok, same};
 use crate::images::{ENDS, mixed, sizes_of};
-use asserts::{ok, same};
 use chunk_ends::cutter::Cutter;
 use chunk_ends::sizes::{CutSizes, SizeFault};
 use chunk_ends::window::window_hash;

@@ -2,7 +2,7 @@
 
 ghost use Rattle.std.specs.Prelude.{◌≡◌, vec_len, All};
 
-use asserts::ok;
+use crate::compare::ok;
 use chunk_ends::sizes::CutSizes;
 use dsy_base::fault::Failed;
 use dsy_base::view::View;

@@ -4,7 +4,7 @@ ghost use Rattle.std.specs.Prelude.{◌≡◌};
 ghost use Rattle.caibx_codec.specs.Listing.{kind_of};
 ghost use Rattle.chunk_store.specs.declared.id.DigestKind.TheVariants as kinds;
 
-use asserts::ok;
+use crate::compare::ok;
 use caibx_codec::index::{Entry, Index};
 use chunk_store::id::{ChunkId, DigestKind};
 use std::alloc::Global;

@@ -4,8 +4,8 @@ ghost use Rattle.std.specs.Prelude.{◌≡◌, ◌<◌, ℕ, false, true};
 ghost use Rattle.caibx_codec.specs.Listing.{count_of};
 ghost use Rattle.range_ledger.specs.Runs.{Has, IsDealt, has_settled};
 
+use crate::compare::{ok, same};
 use crate::indexes::index_of_pieces;
-use asserts::{ok, same};
 use byte_forms::mem_target::MemTarget;
 use byte_forms::ranges::RangeFails;
 use caibx_codec::index::Index;

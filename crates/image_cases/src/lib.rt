@@ -12,6 +12,8 @@ mod calls;
 #[cfg(test)]
 mod check_tests;
 #[cfg(test)]
+mod compare;
+#[cfg(test)]
 mod demo_tests;
 #[cfg(test)]
 mod end_tests;

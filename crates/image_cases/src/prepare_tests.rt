@@ -10,8 +10,8 @@ ghost use Rattle.image_assembly.specs.Readied.{IsRunFor};
 ghost use Rattle.owned_shards.specs.Wholes.{MayFillAll};
 
 use crate::assembly_tests::{counts, kit_of, target_of};
+use crate::compare::{ok, same};
 use crate::indexes::index_of_pieces;
-use asserts::{ok, same};
 use byte_forms::mem_target::MemTarget;
 use byte_forms::mem_view::MemView;
 use byte_forms::ranges::RangeFails;

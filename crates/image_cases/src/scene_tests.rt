@@ -6,9 +6,9 @@ ghost use Rattle.caibx_codec.specs.Listing.{kind_of};
 ghost use Rattle.chunk_store.specs.declared.id.DigestKind.TheVariants as kinds;
 
 use crate::assembly_tests::target_of;
+use crate::compare::{ok, same};
 use crate::indexes::{by_sha512, id_of_piece};
 use assembler::fault::ExtractFault;
-use asserts::{ok, same};
 use byte_forms::mem_view::MemView;
 use byte_forms::ranges::RangeFails;
 use cache_store::shelf::CacheShelf;

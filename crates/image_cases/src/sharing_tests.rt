@@ -4,10 +4,10 @@ ghost use Rattle.std.specs.Prelude.{◌≡◌, ◌≤◌};
 ghost use Rattle.chunk_store.specs.declared.id.DigestKind.TheVariants as kinds;
 
 use crate::assembly_tests::{counts, target_of};
+use crate::compare::{ok, same};
 use crate::indexes::{id_of_piece, index_of_pieces};
 use crate::worker_tests::{StoreGate, asks_of, gated_kits};
 use assembler::fault::ExtractFault;
-use asserts::{ok, same};
 use byte_forms::ranges::RangeFails;
 use cache_store::shelf::CacheShelf;
 use caibx_codec::index::Index;

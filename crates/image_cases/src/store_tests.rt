@@ -1,8 +1,8 @@
 //! Small folder stores in memory, checked and pruned. The names are from FIPS 180-4's example and another program.
 
 use crate::calls::fails;
+use crate::compare::{ok, same};
 use crate::indexes::{ABC, id_of};
-use asserts::{ok, same};
 use chunk_store::id::DigestKind;
 use dir_store::store::DirStore;
 use dsy_base::fault::IoFault;

@@ -2,9 +2,9 @@
 
 ghost use Rattle.std.specs.Prelude.{◌≡◌, ◌<◌, [], ◌∷◌};
 
+use crate::compare::{ok, same};
 use crate::images::{mixed, sizes_of, views_of};
 use crate::indexes::index_of_pieces;
-use asserts::{ok, same};
 use buzhash_cut::sizes::CutSizes;
 use byte_forms::mem_view::MemView;
 use caibx_codec::index::Index;

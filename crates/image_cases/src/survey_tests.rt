@@ -3,8 +3,8 @@
 ghost use Rattle.std.specs.Prelude.{◌≡◌};
 ghost use Rattle.owned_shards.specs.Wholes.{IsRunOver};
 
+use crate::compare::{ok, same};
 use crate::indexes::{id_of, index_of_pieces};
-use asserts::{ok, same};
 use byte_forms::mem_target::MemTarget;
 use byte_forms::ranges::RangeFails;
 use caibx_codec::index::Index;

@@ -1,8 +1,8 @@
 //! A store in memory that several workers check side by side, over folders that wait for one another. The names are
 //! from another program.
 
+use crate::compare::{ok, same};
 use crate::worker_tests::StoreGate;
-use asserts::{ok, same};
 use dir_store::store::DirStore;
 use dsy_base::fault::{FileFault, IoFault};
 use dsy_base::folder::Folder;

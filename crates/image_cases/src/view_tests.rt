@@ -2,9 +2,9 @@
 
 ghost use Rattle.std.specs.Prelude.{◌<◌};
 
+use crate::compare::{ok, same};
 use crate::images::{ENDS, gated, mixed, sizes_of, views_of};
 use crate::indexes::{ABC, id_of};
-use asserts::{ok, same};
 use buzhash_cut::image::{index_view, index_view_as};
 use caibx_codec::index::Index;
 use chunk_ends::sizes::CutSizes;

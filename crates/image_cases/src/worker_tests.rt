@@ -5,8 +5,8 @@ ghost use Rattle.std.specs.List.{All};
 ghost use Rattle.chunk_store.specs.declared.id.DigestKind.TheVariants as kinds;
 
 use crate::assembly_tests::{counts, target_of};
+use crate::compare::{ok, same};
 use crate::indexes::{id_of_piece, index_of_pieces};
-use asserts::{ok, same};
 use byte_forms::mem_view::MemView;
 use byte_forms::ranges::RangeFails;
 use cache_store::shelf::CacheShelf;

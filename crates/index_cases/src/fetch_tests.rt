@@ -1,8 +1,8 @@
 //! An index fetched over connections in memory, on which replies come in pieces of 100 bytes.
 
+use crate::compare::{ok, same};
 use crate::index_of_abc::INDEX_OF_ABC;
 use crate::pieces::pieces_of;
-use asserts::{ok, same};
 use caibx_fields::fault::IndexFault;
 use http_frames::fault::WireFault;
 use index_server::fetch_index::{FetchFault, fetch_index};

@@ -2,6 +2,8 @@
 #![tactic(auto)]
 
 #[cfg(test)]
+mod compare;
+#[cfg(test)]
 mod fetch_tests;
 #[cfg(test)]
 mod index_of_abc;

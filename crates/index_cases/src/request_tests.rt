@@ -1,6 +1,6 @@
 //! The heads of requests for indexes, and the names in their targets.
 
-use asserts::{ok, same};
+use crate::compare::{ok, same};
 use dsy_base::name::Name;
 use http_wire::index_request::{IndexAct, IndexRequest, read_index_request};
 use http_wire::index_target::name_in_target;

@@ -3,9 +3,9 @@
 ghost use Rattle.std.specs.Prelude.{◌<◌, ◌≤◌, length};
 ghost use Rattle.caibx_fields.specs.Limits.{file_limit};
 
+use crate::compare::{ok, same};
 use crate::index_of_abc::INDEX_OF_ABC;
 use crate::pieces::pieces_of;
-use asserts::{ok, same};
 use dsy_base::folder::Folder;
 use dsy_base::look::Look;
 use dsy_base::name::Name;

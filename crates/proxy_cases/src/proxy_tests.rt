@@ -4,7 +4,7 @@
 ghost use Rattle.std.specs.Prelude.{◌≡◌};
 ghost use Rattle.chunk_store.specs.declared.id.DigestKind.TheVariants as kinds;
 
-use asserts::{ok, same};
+use crate::compare::{ok, same};
 use cache_store::cached::Cached;
 use cache_store::shelf::CacheShelf;
 use chunk_proxy::connection::serve_proxy_connection;

@@ -2,8 +2,8 @@
 
 ghost use Rattle.std.specs.Prelude.{◌≡◌};
 
+use crate::compare::{ok, same};
 use crate::images::{ABC, Held, id_of, store_of};
-use asserts::{ok, same};
 use chunk_store::store::{GetFault, Store};
 use dsy_base::fault::IoFault;
 use std::alloc::Global;

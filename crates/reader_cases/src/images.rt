@@ -4,7 +4,7 @@
 ghost use Rattle.std.specs.Prelude.{◌≡◌};
 ghost use Rattle.caibx_codec.specs.Listing.{image_length};
 
-use asserts::{ok, same};
+use crate::compare::{ok, same};
 use caibx_codec::index::{Entry, Index};
 use chunk_store::id::ChunkId;
 use image_reader::reader::ImageReader;

@@ -1,7 +1,7 @@
 //! Ranges of images all of whose chunks are stored.
 
+use crate::compare::{ok, same};
 use crate::images::{ABC, AGAIN, ALL, DEF, GHI, Listed, THREE, open_over};
-use asserts::{ok, same};
 use std::alloc::Global;
 use std::process::Abort;
 

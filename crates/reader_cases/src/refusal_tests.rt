@@ -1,9 +1,9 @@
 //! Ranges of images some of whose chunks aren't to be had.
 
+use crate::compare::ok;
 use crate::images::{
     ABC, ABX, ALL, DEF, GHI, Held, Listed, THREE, id_of, open, open_over, store_of,
 };
-use asserts::ok;
 use chunk_store::shows::Shows;
 use dsy_base::fault::IoFault;
 use image_reader::refused::ReadRefused;

@@ -1,8 +1,8 @@
 //! An image held against its index by several views.
 
+use crate::compare::{ok, same};
 use crate::gate::Gate;
 use crate::images::{DEX, IMAGE, Others, gated_views, id_of, index, views_of};
-use asserts::{ok, same};
 use caibx_codec::index::Index;
 use image_check::check::{CheckFault, verify_index};
 use std::alloc::Global;

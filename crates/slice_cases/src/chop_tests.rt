@@ -1,8 +1,8 @@
 //! An image chopped by several views.
 
+use crate::compare::{ok, same};
 use crate::gate::Gate;
 use crate::images::{DEX, IMAGE, Others, gated_views, id_of, index, views_of};
-use asserts::{ok, same};
 use caibx_codec::index::Index;
 use chunk_store::mem_store::MemStore;
 use chunk_store::store::Store;

@@ -4,8 +4,8 @@
 ghost use Rattle.std.specs.Prelude.{◌≡◌, All, map};
 ghost use Rattle.image_slices.specs.Consumers.{IsAlike};
 
+use crate::compare::ok;
 use crate::gate::{Gate, GatedView};
-use asserts::ok;
 use byte_forms::mem_view::MemView;
 use caibx_codec::index::{Entry, Index};
 use chunk_store::id::ChunkId;

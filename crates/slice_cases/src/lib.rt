@@ -5,6 +5,8 @@
 mod check_tests;
 #[cfg(test)]
 mod chop_tests;
+#[cfg(test)]
+mod compare;
 pub mod gate;
 #[cfg(test)]
 mod images;

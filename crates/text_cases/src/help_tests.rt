@@ -1,6 +1,6 @@
 //! What is printed of each command, by its first line.
 
-use asserts::{ok, same};
+use crate::compare::{ok, same};
 use command_help::help::{Topic, put_help};
 use command_words::option_table::CommandKind;
 use dsy_forms::mem_sink::MemSink;

@@ -3,6 +3,8 @@
 #![tactic(auto)]
 
 #[cfg(test)]
+mod compare;
+#[cfg(test)]
 mod gate_tests;
 #[cfg(test)]
 mod help_tests;

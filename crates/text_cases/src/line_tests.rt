@@ -1,6 +1,6 @@
 //! Words that are refused, with their places, and words that are read.
 
-use asserts::{ok, same};
+use crate::compare::{ok, same};
 use chunk_store::id::DigestKind;
 use command_line::read_words;
 use command_words::command::{Command, Location};

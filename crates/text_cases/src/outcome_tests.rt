@@ -1,6 +1,6 @@
 //! The line of each outcome, and of each fault of an index.
 
-use asserts::{ok, same};
+use crate::compare::{ok, same};
 use caibx_fields::fault::IndexFault;
 use chunk_ends::sizes::SizeFault;
 use chunk_store::id::ChunkId;

@@ -2,7 +2,7 @@
 
 ghost use Rattle.std.specs.Prelude.{◌<◌};
 
-use asserts::ok;
+use crate::compare::ok;
 use std::alloc::Global;
 use std::process::Abort;
 

@@ -1,6 +1,6 @@
 //! Where an index is, by its name.
 
-use asserts::{ok, same};
+use crate::compare::{ok, same};
 use command_words::location::{IndexPlace, NoLocation, read_index_place};
 use std::alloc::Global;
 use std::process::Abort;

@@ -2,8 +2,8 @@
 
 ghost use Rattle.std.specs.Prelude.{◌<◌};
 
+use crate::compare::{ok, same};
 use crate::pieces::pieces_of;
-use asserts::{ok, same};
 use chunk_store::id::ChunkId;
 use chunk_store::store::{GetFault, Store, StoreWrite};
 use dsy_base::dial::Dial;

@@ -4,8 +4,8 @@ ghost use Rattle.std.specs.Prelude.{◌≡◌, ◌<◌, ◌≤◌, length, false
 ghost use Rattle.caibx_fields.specs.Limits.{size_limit};
 ghost use Rattle.http_wire.specs.Request.{is_refusal};
 
+use crate::compare::{ok, same};
 use crate::pieces::pieces_of;
-use asserts::{ok, same};
 use chunk_server::serve::{Served, serve};
 use chunk_server::shelf::Shelf;
 use chunk_server::state::ShelfState;

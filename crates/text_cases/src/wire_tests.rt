@@ -3,7 +3,7 @@
 
 ghost use Rattle.std.specs.Prelude.{◌<◌};
 
-use asserts::{ok, same};
+use crate::compare::{ok, same};
 use chunk_store::id::ChunkId;
 use dsy_forms::mem_sink::MemSink;
 use http_frames::body::BodyKind;

@@ -1,5 +1,4 @@
 //! What tests compare. What differs ends the test, and is printed.
-#![tactic(auto)]
 
 ghost use Rattle.std.specs.Prelude.{◌≡◌, Ok};
 
