@@ -175,7 +175,7 @@ def refusals(cases, disk):
     with cases.case('what is read first is told first'):
         for words, text in ((['-s', 'none', 'none.caibx'], 'none.caibx: no such file'),
                             (['-s', 'none', '-o', '99999999999', 'disk.caibx'], 'none: no such folder'),
-                            (['-s', 'st', 'disk'], 'disk: bad index: HeadSize')):
+                            (['-s', 'st', 'disk'], 'disk: bad index: no index head')):
             expect_put(program.run(['cat', *words], disk.folder), b'', text, ' '.join(words))
     with cases.case('a server that can\'t be reached'):
         expect_put(disk.cat(0, 10, 'http://localhost:1/'), b'', 'store 0 failed')
