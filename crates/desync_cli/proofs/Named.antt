@@ -239,13 +239,13 @@ module _ (n : ℕ) where
   pub verified : (kind : DigestKind) (q : List ℕ) (repair : Bool) (held : Option (Map (List ℕ))) → Shorts n (StoreVerified kind q repair held)
   verified kind q repair held = record { short = verified_tells kind q repair held }
 
-  served_tells : (h : Heard) (q : List ℕ) (held : Option (Map (List ℕ))) (served short : FolderServing) → Tells n (FolderServed h q held served short)
-  served_tells h q held served short d e ends.ListenFault t = omega arith
-  served_tells h q held served short d e ends.Memory t = omega arith
-  served_tells h q held served short d e other t = absurd t.0
+  served_tells : (h : Heard) (q : List ℕ) (held : Option (Map (List ℕ))) (whole part : FolderServing) → Tells n (FolderServed h q held whole part)
+  served_tells h q held whole part d e ends.ListenFault t = omega arith
+  served_tells h q held whole part d e ends.Memory t = omega arith
+  served_tells h q held whole part d e other t = absurd t.0
 
-  pub served : (h : Heard) (q : List ℕ) (held : Option (Map (List ℕ))) (served short : FolderServing) → Shorts n (FolderServed h q held served short)
-  served h q held served short = record { short = served_tells h q held served short }
+  pub served : (h : Heard) (q : List ℕ) (held : Option (Map (List ℕ))) (whole part : FolderServing) → Shorts n (FolderServed h q held whole part)
+  served h q held whole part = record { short = served_tells h q held whole part }
 
   written_tells : (q bytes : List ℕ) → length q ≤ n → Tells n (IndexWritten q bytes)
   written_tells q bytes le d e o h = not_written q le d e o h.0
