@@ -31,6 +31,3 @@ returns-in-Demo g c = record { unheard = λ _. refl; ends = rw c.in-Demo.is (c.d
 
 pub returns-in-ChunkServer : goal.returns-in-ChunkServer
 returns-in-ChunkServer g c = record { unheard = λ h. none_such (rw c.in-ChunkServer.is at h); ends = rw c.in-ChunkServer.is (c.chunk_server.ensures.ends _ _) }
-
-pub returns-in-IndexServer : goal.returns-in-IndexServer
-returns-in-IndexServer g c = record { unheard = λ h. none_such (rw c.in-IndexServer.is at h); ends = rw c.in-IndexServer.is (c.index_server.ensures.ends _ _) }
