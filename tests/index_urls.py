@@ -5,14 +5,14 @@ The servers listen on the loopback interface alone: nginx, which serves a folder
 `desync index-server`, and those of this script, which answer as no server should.
 """
 
+import gzip
 import os
 import sys
 
 import formats
 import program
 import servers
-from checks import (Cases, expect, expect_ended, expect_equal, expect_files, expect_untouched, file_bytes,
-                    needs_program, put_file, snapshot)
+from checks import (Cases, expect, expect_ended, expect_equal, expect_untouched, needs_program, put_file, snapshot)
 from http_stores import Image, files, nginx
 from servers import in_chunks, reply, to_the_end
 
@@ -141,6 +141,8 @@ def refused(cases):
                 ('no reply of HTTP', b'hello\r\n\r\n', 'failed'),
                 ('a body with a byte less than was told', reply(200, right)[:-1], 'failed'),
                 ('a body in chunks without its end', in_chunks(right)[:-5], 'failed'),
+                ('another transfer coding', reply(200, right, 'Transfer-Encoding: gzip'), 'failed'),
+                ('compressed content', reply(200, gzip.compress(right), 'Content-Encoding: gzip'), None),
                 ('a body longer than any index', longer, 'failed'),
                 ('an index that lacks its last byte', reply(200, right[:-1]),
                  f'bad index: truncated at byte {len(right) - 1}'),
