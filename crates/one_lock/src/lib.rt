@@ -1,4 +1,0 @@
-//! Locks of which each holder holds one at a time.
-#![tactic(auto)]
-
-pub mod hand;
