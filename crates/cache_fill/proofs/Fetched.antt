@@ -1,10 +1,10 @@
 -- What further workers have asked their stores for, and what stands in their rooms.
-use Rattle.std.proofs.Common.{◌≡◌, ℕ, zero, suc, ◌+◌, ◌-◌, ◌<◌, ◌≤◌, List, [], ◌∷◌, map, Bool, true, false, Option, All, refl, sym, subst, ◌∙◌, inl, inr, arith}
+use Rattle.std.proofs.Common.{◌≡◌, ◌≢◌, ℕ, zero, suc, ◌+◌, ◌-◌, ◌<◌, ◌≤◌, List, [], ◌∷◌, map, slice_index_or, Bool, true, false, Option, All, refl, sym, subst, ◌∙◌, inl, inr, arith}
 use Rattle.std.specs.List.{AllZip}
 use Rattle.std.specs.Str.{bytes_eq}
 use Rattle.std.proofs.lemmas.List.Sums.{count_by_more_no, count_by_more_yes}
 use Rattle.std.proofs.lemmas.Slice.Eq.{bytes_eq-Decides}
-use Rattle.cache_fill.specs.Fetching.{AreInOrder, AsksToo, AsksWithin, Fetches, SomeHoldsEntry}
+use Rattle.cache_fill.specs.Fetching.{AreInOrder, AsksMarked, AsksToo, AsksWithin, Fetches, FetchesMarked, SomeHoldsEntry}
 use Rattle.cache_fill.specs.Filling.{FetchesAhead}
 use Rattle.cache_fill.specs.declared.asked.Asked.{Asked}
 use Rattle.cache_fill.specs.declared.want_reader.WantReader.{WantReader}
@@ -122,13 +122,27 @@ module _ (l : Listing) where
 
 -- ---- what the stores of a worker were asked for
 
-module _ {S : Type 0} (store : StoreWords S) (l : Listing) where
+module _ {S : Type 0} (store : StoreWords S) (l : Listing) (marks : List Bool) where
+  -- stores that weren't asked
+  pub marked_none : (cs : List S) → AllZip (λ x y. AsksMarked l marks (store.asked x) (store.asked y)) cs cs
+  marked_none cs = all_zip_same (λ x y. AsksMarked l marks (store.asked x) (store.asked y)) (λ s q no. refl) cs
+
+  -- the chunk of a marked entry was asked for
+  marked_more : (i : ℕ) → i < count_of l → slice_index_or marks i false ≡ true → (old now new : List ℕ → ℕ) → AsksMarked l marks old now → AskedOnce now new (id_of l i) → AsksMarked l marks old new
+  marked_more i less is old now new before once = λ q no.
+      let other : q ≢ id_of l i = λ same. no (i, less, is, sym same) in
+      once.others q other ∙ before q no
+
   abbrev pub fresh : Asked
   fresh = record { floor = 0; low = 0; high = 0 }
 
-  pub fetches_none : (c : Chained S) → Fetches store l fresh c c
+  pub fresh_order : AreInOrder l fresh
+  fresh_order = (omega arith, omega arith, omega arith)
+
+  pub fetches_none : (c : Chained S) → Fetches store l marks fresh c c
   fetches_none c = record {
     stores = all_zip_same (λ x y. AsksWithin l fresh (store.asked x) (store.asked y)) (λ s. within_none l (store.asked s)) c.stores;
+    marked = marked_none c.stores;
     queries = refl;
     no_fewer = omega arith;
     calls = omega arith;
@@ -140,11 +154,13 @@ module _ {S : Type 0} (store : StoreWords S) (l : Listing) where
   calls_on i a b c d e order (inl above) calls one = omega (arith, calls, one, order.0, above.1, above.2, above.3)
   calls_on i a b c d e order (inr between) calls one = omega (arith, calls, one, between.1, between.2, between.3, between.4)
 
-  pub fetches_more : (i : ℕ) → i < count_of l → (a b : Asked) → AreInOrder l a → AsksToo i a b → (c d e : Chained S) → AsksOnce store.asked store.queried (id_of l i) d e
-      → KeepsStores store (λ a. a ≡ Get (id_of l i)) d.stores e.stores → Fetches store l a c d → Fetches store l b c e
-  fetches_more i less a b order too c d e once kept before = record {
+  pub fetches_more : (i : ℕ) → i < count_of l → slice_index_or marks i false ≡ true → (a b : Asked) → AreInOrder l a → AsksToo i a b → (c d e : Chained S) → AsksOnce store.asked store.queried (id_of l i) d e
+      → KeepsStores store (λ a. a ≡ Get (id_of l i)) d.stores e.stores → Fetches store l marks a c d → Fetches store l marks b c e
+  fetches_more i less is a b order too c d e once kept before = record {
     stores = each_then (λ x y. AsksWithin l a (store.asked x) (store.asked y)) (λ x y. AskedOnce (store.asked x) (store.asked y) (id_of l i)) (λ x y. AsksWithin l b (store.asked x) (store.asked y))
         (λ x y z h g. within_more l i less a b order too (store.asked x) (store.asked y) (store.asked z) h g) c.stores d.stores e.stores before.stores once.stores;
+    marked = each_then (λ x y. AsksMarked l marks (store.asked x) (store.asked y)) (λ x y. AskedOnce (store.asked x) (store.asked y) (id_of l i)) (λ x y. AsksMarked l marks (store.asked x) (store.asked y))
+        (λ x y z h g. marked_more i less is (store.asked x) (store.asked y) (store.asked z) h g) c.stores d.stores e.stores before.marked once.stores;
     queries = once.queries ∙ before.queries;
     no_fewer = omega (arith, before.no_fewer, once.calls, once.below);
     calls = calls_on i a b c.asks d.asks e.asks order too before.calls (omega (arith, once.calls));
@@ -153,7 +169,7 @@ module _ {S : Type 0} (store : StoreWords S) (l : Listing) where
         (kept_weaker store (λ a. a ≡ Get (id_of l i)) (IsListedGet l) (λ a asked. record { entry = i; listed = less; asked = asked }) d.stores e.stores kept);
   }
 
-  pub fetches_ahead : (a : Asked) → AreInOrder l a → (c d : Chained S) → Fetches store l a c d → FetchesAhead store l c d
+  fetches_ahead : (a : Asked) → AreInOrder l a → (c d : Chained S) → Fetches store l marks a c d → FetchesAhead store l c d
   fetches_ahead a order c d before = record {
     asks = record {
       stores = each_weaker (λ x y. AsksWithin l a (store.asked x) (store.asked y)) (λ x y. AsksListed l (count_of l) (store.asked x) (store.asked y)) (λ x y h. within_all l a order (store.asked x) (store.asked y) h) c.stores d.stores before.stores;
@@ -164,6 +180,9 @@ module _ {S : Type 0} (store : StoreWords S) (l : Listing) where
     };
     stores = before.kept;
   }
+
+  pub fetches_marked : (a : Asked) → AreInOrder l a → (c d : Chained S) → Fetches store l marks a c d → FetchesMarked store l marks c d
+  fetches_marked a order c d before = record { ahead = fetches_ahead a order c d before; marked = before.marked }
 
 -- ---- what stands in their rooms
 
@@ -185,24 +204,31 @@ rooms_back holds l k c d same held a is = rooms_same holds l d c (sym held) a (s
 
 module _ {S : Type 0} (store : StoreWords S) where
   abbrev pub Went : WantReader S → WantReader S → Type 0
-  Went r s = (s.index.now ≡ r.index.now) × AreInOrder s.index.now s.asked × Fetches store s.index.now s.asked r.chain s.chain
+  Went r s = (s.index.now ≡ r.index.now) × (s.lacking.now ≡ r.lacking.now) × AreInOrder s.index.now s.asked × Fetches store s.index.now s.lacking.now s.asked r.chain s.chain
 
   began : (r : WantReader S) → r.asked ≡ (record { floor = 0; low = 0; high = 0 }) → Went r r
   began r is = (
     refl,
+    refl,
     subst (AreInOrder r.index.now) (sym is) (omega arith, omega arith, omega arith),
-    subst (λ (a : Asked). Fetches store r.index.now a r.chain r.chain) (sym is) (fetches_none store r.index.now r.chain),
+    subst (λ (a : Asked). Fetches store r.index.now r.lacking.now a r.chain r.chain) (sym is) (fetches_none store r.index.now r.lacking.now r.chain),
   )
 
   pub readers_begin : (rs : List (WantReader S)) → All (λ r. r.asked ≡ record { floor = 0; low = 0; high = 0 }) rs → AllZip Went rs rs
   readers_begin [] all = tt
   readers_begin (r ∷ rs) all = (began r (All-head (λ r. r.asked ≡ record { floor = 0; low = 0; high = 0 }) r rs all), readers_begin rs (All-rest (λ r. r.asked ≡ record { floor = 0; low = 0; high = 0 }) r rs _ refl all))
 
-  fetched : (l : Listing) (r s : WantReader S) → r.index.now ≡ l → Went r s → FetchesAhead store l r.chain s.chain
-  fetched l r s is went = subst (λ (k : Listing). FetchesAhead store k r.chain s.chain) (went.0 ∙ is) (fetches_ahead store s.index.now s.asked went.1 r.chain s.chain went.2)
+  module _ (l : Listing) (marks : List Bool) where
+    fetched : (r s : WantReader S) → r.index.now ≡ l → r.lacking.now ≡ marks → Went r s → FetchesMarked store l marks r.chain s.chain
+    fetched r s is marked went =
+        subst (λ (k : Listing). FetchesMarked store k marks r.chain s.chain) (went.0 ∙ is)
+        (subst (λ (m : List Bool). FetchesMarked store s.index.now m r.chain s.chain) (went.1 ∙ marked) (fetches_marked store s.index.now s.lacking.now s.asked went.2 r.chain s.chain went.3))
 
-  pub readers_end : (l : Listing) (rs ss : List (WantReader S)) → All (λ r. r.index.now ≡ l) rs → AllZip Went rs ss → AllZip (λ r s. FetchesAhead store l r.chain s.chain) rs ss
-  readers_end l [] [] all went = tt
-  readers_end l [] (s ∷ ss) all went = absurd went
-  readers_end l (r ∷ rs) [] all went = absurd went
-  readers_end l (r ∷ rs) (s ∷ ss) all went = (fetched l r s (All-head (λ r. r.index.now ≡ l) r rs all) went.0, readers_end l rs ss (All-rest (λ r. r.index.now ≡ l) r rs _ refl all) went.1)
+    pub readers_end : (rs ss : List (WantReader S)) → All (λ r. r.index.now ≡ l) rs → All (λ r. r.lacking.now ≡ marks) rs → AllZip Went rs ss → AllZip (λ r s. FetchesMarked store l marks r.chain s.chain) rs ss
+    readers_end [] [] all marked went = tt
+    readers_end [] (s ∷ ss) all marked went = absurd went
+    readers_end (r ∷ rs) [] all marked went = absurd went
+    readers_end (r ∷ rs) (s ∷ ss) all marked went = (
+      fetched r s (All-head (λ r. r.index.now ≡ l) r rs all) (All-head (λ r. r.lacking.now ≡ marks) r rs marked) went.0,
+      readers_end rs ss (All-rest (λ r. r.index.now ≡ l) r rs _ refl all) (All-rest (λ r. r.lacking.now ≡ marks) r rs _ refl marked) went.1,
+    )

@@ -1,7 +1,7 @@
 -- What filling a cache by an index may answer, and what it does to the cache. l lists the chunks, `holds` gives what a
 -- store holds. s0 and s1 are the cache's shelf before and afterwards, c0 and c1 the stores.
 use Rattle.std.specs.Prelude.{◌≡◌, ◌⊎◌, ℕ, ◌+◌, ◌<◌, ◌≤◌, List, ◌∷◌, length, map}
-use Rattle.std.specs.Prelude.{Option, Some, IfSome, Result, Ok, Err}
+use Rattle.std.specs.Prelude.{Option, Some, IfSome, IsSome, Result, Ok, Err}
 use Rattle.std.specs.List.{AllZip}
 use Rattle.cache_store.specs.Giving.{GiveOneSize, SomeGives}
 use Rattle.cache_store.specs.Shelves.{Shelf, Stocks, held_on}
@@ -203,6 +203,11 @@ module _ {S : Type 0} (store : StoreWords S) (l : Listing) where
       ((fault ≡ faults.Memory) × (s1 ≡ s0) × (c1 ≡ c0)) ⊎ FillStops fault s0 s1 c0 c1
 
 -- ---- what further workers do
+
+-- their stores weren't asked for what is held under some id, be it right or not
+abbrev pub SparesHeld : {S : Type 0} → (S → List ℕ → ℕ) → Option (Map (List ℕ)) → Chained S → Chained S → Type 0
+SparesHeld asked held c d = IfSome held (λ m.
+    AllZip (λ x y. (q : List ℕ) → IsSome (m q) → asked y q ≡ asked x q) c.stores d.stores)
 
 -- a further worker's stores were asked for each id at most once for each entry that lists it, and for listed chunks
 -- alone

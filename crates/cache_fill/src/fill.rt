@@ -4,9 +4,10 @@
 ghost use Rattle.std.specs.Prelude.{◌≡◌, ℕ, List, ◌<◌, ◌≤◌, All, IsTrue, Some, None, length, map, vec_capacity};
 ghost use Rattle.std.specs.List.{AllZip};
 ghost use Rattle.cache_fill.specs.Filling.{AsksEntries, FetchesAhead, FillEnds, FillUnfailed, FillsBy, HoldsTo};
-ghost use Rattle.cache_fill.specs.Filling.{MayFillCache, SparesStores, filled_to};
+ghost use Rattle.cache_fill.specs.Filling.{MayFillCache, SparesHeld, SparesStores, filled_to};
+ghost use Rattle.cache_fill.specs.Fetching.{FetchesMarked};
 ghost use Rattle.cache_fill.specs.FillProgress.{FillAnswers, shelf_at};
-ghost use Rattle.cache_store.specs.Shelves.{KeepsShelf, Stocks, shelf_of};
+ghost use Rattle.cache_store.specs.Shelves.{KeepsShelf, Stocks, held_on, shelf_of};
 ghost use Rattle.caibx_codec.specs.Asks.{IsListedGet};
 ghost use Rattle.caibx_codec.specs.Listing.{count_of, kind_of, size_of};
 ghost use Rattle.dsy_base.specs.Maps.{Map};
@@ -69,12 +70,14 @@ fn fill_entries<R: Threads + Sync, F: Folder, S: Store + Send>(
     requires looked { KeepsShelf (shelf_at F.Look S.Store first.value) (shelf_at F.Look S.Store cached.old) }
     requires chain { cached.old.chain ≡ first.value.chain }
     requires same { All (λ r. r.index.now ≡ index.now) readers.old }
+    requires marked { All (λ r. r.lacking.now ≡ lacking.now) readers.old }
     requires unasked { All (λ r. r.asked ≡ record { floor = 0; low = 0; high = 0 }) readers.old }
     requires kinds { All (λ r. r.chain.kind ≡ kind_of index.now) readers.old }
     requires alike { All (λ r. map S.holds r.chain.stores ≡ map S.holds cached.old.chain.stores) readers.old }
     ensures answers { FillAnswers S.Store index.now (shelf_at F.Look S.Store first.value)
         (shelf_at F.Look S.Store cached.new) first.value.chain cached.new.chain result }
-    ensures further { AllZip (λ r s. FetchesAhead S.Store index.now r.chain s.chain) readers.old readers.new }
+    ensures further { AllZip (λ r s. FetchesMarked S.Store index.now lacking.now r.chain s.chain)
+        readers.old readers.new }
 {
     let alloc = *room.allocator();
     let chunk = room.as_mut_slice();
@@ -115,7 +118,7 @@ fn fill_beside<'a, R: Threads + Sync, F: Folder, S: Store + Send>(
     requires alike { All (λ c. map S.holds c.stores ≡ map S.holds cached.old.chain.stores) further.old.items }
     ensures answers { FillAnswers S.Store index.now (shelf_at F.Look S.Store first.value)
         (shelf_at F.Look S.Store cached.new) first.value.chain cached.new.chain result }
-    ensures further { AllZip (FetchesAhead S.Store index.now) further.old.items further.new.items }
+    ensures further { AllZip (FetchesMarked S.Store index.now lacking.now) further.old.items further.new.items }
 {
     let alloc = *room.allocator();
     let mut readers: Vec<WantReader<'a, S>> = match Vec::with_capacity(alloc, further.len()) {
@@ -168,6 +171,8 @@ pub fn fill<R: Threads + Sync, F: Folder, S: Store + Send>(
         (shelf_of F.files F.place F.faults cached.old.shelf) (shelf_of F.files F.place F.faults cached.new.shelf) }
     ensures stores { KeepsStores S.Store (IsListedGet index.now) cached.old.chain.stores cached.new.chain.stores }
     ensures further { AllZip (FetchesAhead S.Store index.now) further.old.items further.new.items }
+    ensures unasked { AllZip (SparesHeld S.asked (held_on (shelf_of F.files F.place F.faults cached.old.shelf)))
+        further.old.items further.new.items }
 {
     let Ok(mut room) = index.room(alloc) else {
         return Err(FillFault::Memory);

@@ -35,6 +35,7 @@ pub(crate) fn hire<'a, S: Store>(
     requires room { vec_len chains.old ≤ vec_capacity readers.old }
     ensures kept { chains.old.items ≡ map (λ r. r.chain) readers.new.items }
     ensures index { All (λ r. r.index.now ≡ index.now) readers.new.items }
+    ensures marked { All (λ r. r.lacking.now ≡ lacking.now) readers.new.items }
     ensures unasked { All (λ r. r.asked ≡ record { floor = 0; low = 0; high = 0 }) readers.new.items }
     ensures none { chains.new.items ≡ [] }
     ensures room { vec_len readers.new ≤ vec_capacity chains.new }

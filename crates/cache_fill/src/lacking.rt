@@ -1,9 +1,10 @@
 //! Which entries are worth being read ahead, and how far. Entries are numbered from 0, sizes are in bytes.
 
-ghost use Rattle.std.specs.Prelude.{◌≡◌, ◌<◌, ◌≤◌};
+ghost use Rattle.std.specs.Prelude.{◌≡◌, ◌<◌, ◌≤◌, IfOk, IfSome, None, Ok, false, slice_index_or, true};
+ghost use Rattle.cache_fill.specs.Fetching.{MarksLacking};
 ghost use Rattle.cache_fill.specs.FillProgress.{shelf_at};
-ghost use Rattle.cache_store.specs.Shelves.{KeepsShelf};
-ghost use Rattle.caibx_codec.specs.Listing.{count_of};
+ghost use Rattle.cache_store.specs.Shelves.{KeepsShelf, held_on};
+ghost use Rattle.caibx_codec.specs.Listing.{count_of, id_of};
 
 use cache_store::cached::Cached;
 use cache_store::shelf::CacheMiss;
@@ -29,7 +30,9 @@ pub(crate) fn room_size(largest: usize) -> usize {
 }
 
 /// Whether the cache lacked the chunk of entry i. Where there is no list it isn't known.
-pub(crate) fn is_lacking(lacking: &[bool], i: usize) -> bool {
+pub(crate) fn is_lacking(lacking: &[bool], i: usize) -> bool
+    ensures { result ≡ slice_index_or lacking.now i false }
+{
     match lacking.get(i) {
         Some(lacks) => *lacks,
         None => false,
@@ -72,6 +75,8 @@ fn is_first_lack<F: Folder, S: Store>(
     cached: &mut Cached<F, S>,
 ) -> Result<bool, AllocError>
     requires listed { i < count_of index.now }
+    ensures only { result ≡ Ok true →
+        IfSome (held_on (shelf_at F.Look S.Store cached.old)) (λ m. m (id_of index.now i) ≡ None) }
     ensures kept { KeepsShelf (shelf_at F.Look S.Store cached.old) (shelf_at F.Look S.Store cached.new) }
     ensures chain { cached.new.chain ≡ cached.old.chain }
 {
@@ -91,6 +96,8 @@ fn list_lacking<F: Folder, S: Store>(
     index: &Index,
     cached: &mut Cached<F, S>,
 ) -> Result<Vec<bool>, AllocError>
+    ensures only { IfOk result
+        (λ v. MarksLacking index.now (held_on (shelf_at F.Look S.Store cached.old)) v.items) }
     ensures kept { KeepsShelf (shelf_at F.Look S.Store cached.old) (shelf_at F.Look S.Store cached.new) }
     ensures chain { cached.new.chain ≡ cached.old.chain }
 {
@@ -111,6 +118,7 @@ pub(crate) fn list_ahead<F: Folder, S: Store>(
     cached: &mut Cached<F, S>,
     chains: usize,
 ) -> Vec<bool>
+    ensures only { MarksLacking index.now (held_on (shelf_at F.Look S.Store cached.old)) result.items }
     ensures kept { KeepsShelf (shelf_at F.Look S.Store cached.old) (shelf_at F.Look S.Store cached.new) }
     ensures chain { cached.new.chain ≡ cached.old.chain }
 {

@@ -1,7 +1,7 @@
 //! A further worker, which gets chunks from stores of its own ahead of their entries' turns. Entries are numbered from
 //! 0.
 
-ghost use Rattle.std.specs.Prelude.{◌≡◌, ◌<◌, map};
+ghost use Rattle.std.specs.Prelude.{◌≡◌, ◌<◌, false, map, slice_index_or, true};
 ghost use Rattle.cache_fill.specs.Fetching.{AreInOrder, Fetches, SomeHoldsEntry};
 ghost use Rattle.caibx_codec.specs.Listing.{count_of, kind_of};
 ghost use Rattle.image_slices.specs.Ahead.{HasSpace, IsAhead};
@@ -32,6 +32,7 @@ impl<'a, S: Store> WantReader<'a, S> {
     // read.
     fn fetch(&mut self, i: usize, room: &mut Ahead) -> bool
         requires listed { i < count_of self.old.index.now }
+        requires marked { slice_index_or self.old.lacking.now i false ≡ true }
         requires order { AreInOrder self.old.index.now self.old.asked }
         requires kind { self.old.chain.kind ≡ kind_of self.old.index.now }
         requires right { IsAhead self.old.index.now (SomeHoldsEntry S.holds self.old.index.now
@@ -42,9 +43,11 @@ impl<'a, S: Store> WantReader<'a, S> {
         ensures order { AreInOrder self.new.index.now self.new.asked }
         ensures kind { self.new.chain.kind ≡ kind_of self.new.index.now }
         ensures index { self.new.index.now ≡ self.old.index.now }
+        ensures marks { self.new.lacking.now ≡ self.old.lacking.now }
         ensures held { map S.holds self.new.chain.stores ≡ map S.holds self.old.chain.stores }
-        ensures on { (c : Chained S) → Fetches S.Store self.old.index.now self.old.asked c self.old.chain →
-            Fetches S.Store self.new.index.now self.new.asked c self.new.chain }
+        ensures on { (c : Chained S) →
+            Fetches S.Store self.old.index.now self.old.lacking.now self.old.asked c self.old.chain →
+            Fetches S.Store self.new.index.now self.new.lacking.now self.new.asked c self.new.chain }
     {
         let index = self.index;
         index.rules();
@@ -78,8 +81,8 @@ impl<'a, S: Store> Reader<Ahead> for WantReader<'a, S> {
 
     ghost is_right = { λ r a. IsAhead r.index.now (SomeHoldsEntry S.holds r.index.now r.chain.stores) a };
 
-    ghost went = { λ r s. (s.index.now ≡ r.index.now) × AreInOrder s.index.now s.asked
-        × Fetches S.Store s.index.now s.asked r.chain s.chain };
+    ghost went = { λ r s. (s.index.now ≡ r.index.now) × (s.lacking.now ≡ r.lacking.now) × AreInOrder s.index.now s.asked
+        × Fetches S.Store s.index.now s.lacking.now s.asked r.chain s.chain };
 
     fn begin(&self, room: &mut Ahead) {
         room.clear();

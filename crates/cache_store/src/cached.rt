@@ -1,7 +1,7 @@
 //! A cache before a chain of stores. Sizes are in bytes.
 
 ghost use Rattle.std.specs.Prelude.{◌≡◌, ◌≢◌, ◌⊎◌, ℕ, List, ◌≤◌, length, None, take, true, Some, IfSome, IfOk};
-ghost use Rattle.std.specs.Prelude.{IfErr};
+ghost use Rattle.std.specs.Prelude.{Err, IfErr};
 ghost use Rattle.std.specs.List.{Any};
 ghost use Rattle.store_chain.specs.Giving.{SomeHolds};
 ghost use Rattle.cache_store.specs.Shelves.{IsPair, KeepsShelf, MayHold, Stocks, held_on, shelf_of};
@@ -179,12 +179,14 @@ impl<F: Folder, S: Store> Cached<F, S> {
         ensures absent { IfErr result (λ m. m ≢ CacheMiss.Memory →
             Unfound (query_of self.old.shelf.kind id.now size (length out.old))
             (shelf_of F.files F.place F.faults self.old.shelf) (shelf_of F.files F.place F.faults self.new.shelf)) }
+        ensures only { result ≡ Err CacheMiss.Absent →
+            IfSome (held_on (shelf_of F.files F.place F.faults self.old.shelf)) (λ m. m id.now.0 ≡ None) }
         ensures kept { KeepsShelf (shelf_of F.files F.place F.faults self.old.shelf)
             (shelf_of F.files F.place F.faults self.new.shelf) }
         ensures kind { self.old.shelf.kind ≡ self.old.chain.kind }
         ensures chain { self.new.chain ≡ self.old.chain }
     {
-        self.shelf.look(id, size, out)
+        self.shelf.find(id, size, out)
     }
 
     /// Adds the chunk of this id to the shelf, in the place of what stood there. The stores aren't asked.

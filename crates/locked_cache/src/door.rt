@@ -1,6 +1,6 @@
 //! A cache behind a lock, and the door by which a worker reaches it. Sizes are in bytes.
 
-ghost use Rattle.std.specs.Prelude.{◌≡◌, ◌≤◌, Err, IfErr, IfOk, IfSome, IsTrue, Some, length};
+ghost use Rattle.std.specs.Prelude.{◌≡◌, ◌≤◌, Err, IfErr, IfOk, IfSome, IsTrue, Some, length, true};
 ghost use Rattle.cache_store.specs.Shelves.{MayAdd, shelf_of};
 ghost use Rattle.chunk_store.specs.Kinds.{kind_named};
 ghost use Rattle.dsy_base.specs.Counts.{CountsFaults};
@@ -14,15 +14,16 @@ use chunk_store::id::{ChunkId, DigestKind};
 use chunk_store::store::GetFault;
 use dsy_base::fault::{IoFault, raise};
 use dsy_base::folder::Folder;
+use one_lock::hand::{Hand, HandLock};
 use std::marker::Model;
-use std::sync::{Mutex, Wait};
+use std::sync::Wait;
 use store_chain::query::Query;
 
 /// A cache that threads share. Its lock is held while a chunk's file is read or written, and no longer.
 #[derive(Drop)]
 pub struct LockedCache<F: Folder> {
     kind: DigestKind,
-    shelf: Mutex<StockedShelf<F>>,
+    shelf: HandLock<StockedShelf<F>>,
 }
 
 impl<F: Folder> Model for LockedCache<F> {
@@ -37,23 +38,25 @@ impl<F: Folder> Model for LockedCache<F> {
     ghost invariant = { λ c. c.kind ≡ kind_named F.kind };
 }
 
-/// The cache as one worker sees it, who may find what others have added. Only failed calls of its own are counted.
+/// The cache as one worker sees it, who may find what others have added. Only failed calls of its own are counted. It
+/// holds the lock in no call but its own, and has let it go when that ends.
 #[derive(Drop)]
 pub struct CacheDoor<'a, W: Wait, F: Folder> {
     rt: &'a W,
     cache: &'a LockedCache<F>,
+    hand: Hand,
     faults: u64,
 }
 
 impl<'a, W: Wait, F: Folder> Model for CacheDoor<'a, W, F> {
-    ghost use Rattle.std.specs.Prelude.{◌≡◌, IsTrue};
+    ghost use Rattle.std.specs.Prelude.{◌≡◌, IsTrue, true};
     ghost use Rattle.locked_cache.specs.Additions.{Doorway};
 
     ghost Value = { Doorway };
 
     ghost view = { λ s. record { faults = s.faults } };
 
-    ghost invariant = { λ s. IsTrue F.never_fails → s.faults ≡ 0 };
+    ghost invariant = { λ s. (IsTrue F.never_fails → s.faults ≡ 0) × (s.hand.is_free ≡ true) };
 }
 
 impl<F: Folder> LockedCache<F> {
@@ -65,7 +68,7 @@ impl<F: Folder> LockedCache<F> {
     {
         LockedCache {
             kind: shelf.kind(),
-            shelf: Mutex::new(StockedShelf::new(shelf)),
+            shelf: HandLock::new(StockedShelf::new(shelf)),
         }
     }
 
@@ -75,6 +78,7 @@ impl<F: Folder> LockedCache<F> {
         CacheDoor {
             rt,
             cache: self,
+            hand: Hand::new(),
             faults: 0,
         }
     }
@@ -95,24 +99,44 @@ impl<F: Folder> LockedCache<F> {
     }
 
     // Reads a chunk's file under the lock.
-    fn read_behind<W: Wait>(&self, rt: &W, id: &ChunkId, lent: &mut [u8]) -> Result<usize, GetFault>
+    fn read_behind<W: Wait>(
+        &self,
+        rt: &W,
+        hand: &mut Hand,
+        id: &ChunkId,
+        lent: &mut [u8],
+    ) -> Result<usize, GetFault>
+        requires free { hand.old.is_free ≡ true }
         ensures bytes { ReadsStocked (MayAdd (kind_named F.kind) F.pairs F.stores) F.opening id.now.0 result lent.new }
         ensures inside { IfOk result (λ n. n ≤ length lent.new) }
         ensures only { result ≡ Err GetFault.Failed → IsTrue F.never_fails → ⊥ }
+        ensures free { hand.new.is_free ≡ true }
     {
-        let mut guard = self.shelf.lock(rt);
+        let mut guard = self.shelf.take(rt, hand);
         let shelf = &mut *guard;
-        shelf.read(id, lent)
+        let read = shelf.read(id, lent);
+        hand.let_go(guard);
+        read
     }
 
     // Adds a chunk under the lock.
-    fn add_behind<W: Wait>(&self, rt: &W, id: &ChunkId, b: &[u8]) -> Result<(), IoFault>
+    fn add_behind<W: Wait>(
+        &self,
+        rt: &W,
+        hand: &mut Hand,
+        id: &ChunkId,
+        b: &[u8],
+    ) -> Result<(), IoFault>
+        requires free { hand.old.is_free ≡ true }
         requires may { MayAdd (kind_named F.kind) F.pairs F.stores id.now.0 b.now }
         ensures only { result ≡ Err IoFault.Failed → IsTrue F.never_fails → ⊥ }
+        ensures free { hand.new.is_free ≡ true }
     {
-        let mut guard = self.shelf.lock(rt);
+        let mut guard = self.shelf.take(rt, hand);
         let shelf = &mut *guard;
-        shelf.add(id, b)
+        let added = shelf.add(id, b);
+        hand.let_go(guard);
+        added
     }
 }
 
@@ -145,7 +169,7 @@ impl<'a, W: Wait, F: Folder> CacheDoor<'a, W, F> {
     {
         let query = Query::of(self.cache.kind(), id, size, out.len());
         let (lent, _) = out.split_at_mut(query.lent);
-        let answer = self.cache.read_behind(self.rt, id, lent);
+        let answer = self.cache.read_behind(self.rt, &mut self.hand, id, lent);
         if let Err(GetFault::Failed) = answer {
             self.faults = raise(self.faults, 1);
         }
@@ -158,7 +182,7 @@ impl<'a, W: Wait, F: Folder> CacheDoor<'a, W, F> {
         ensures sure { IsTrue F.never_fails → self.new.faults ≡ 0 }
         ensures faults { CountsFaults IoFault.Failed IoFault.Memory self.old.faults self.new.faults result }
     {
-        let added = self.cache.add_behind(self.rt, id, b);
+        let added = self.cache.add_behind(self.rt, &mut self.hand, id, b);
         if let Err(IoFault::Failed) = added {
             self.faults = raise(self.faults, 1);
         }

@@ -17,15 +17,16 @@ use chunk_store::id::{ChunkId, DigestKind};
 use dsy_base::fault::Memory;
 use dsy_base::folder::Folder;
 use http_wire::request::Act;
+use one_lock::hand::{Hand, HandLock};
 use std::alloc::Global;
 use std::marker::Model;
-use std::sync::{Mutex, Wait};
+use std::sync::Wait;
 
 /// A folder of chunks that threads share. Its lock is held while a chunk's file is read or written, and no longer.
 #[derive(Drop)]
 pub struct LockedShelf<F: Folder> {
     alloc: Global,
-    kept: Mutex<Kept<F>>,
+    kept: HandLock<Kept<F>>,
     kind: DigestKind,
     writable: bool,
 }
@@ -43,12 +44,24 @@ impl<F: Folder> Model for LockedShelf<F> {
 }
 
 /// The shelf as one connection sees it. The connection has a buffer of its own, so that digests are computed while
-/// others have the lock.
+/// others have the lock. It holds the lock in no call but its own, and has let it go when that ends.
 #[derive(Drop)]
 pub struct ShelfDoor<'a, R: Wait, F: Folder> {
     rt: &'a R,
     shelf: &'a LockedShelf<F>,
+    hand: Hand,
     file: ChunkFile,
+}
+
+impl<'a, R: Wait, F: Folder> Model for ShelfDoor<'a, R, F> {
+    ghost use Rattle.std.specs.Prelude.{◌≡◌, true};
+    ghost use Rattle.locked_shelf.specs.Keepings.{LockedRules};
+
+    ghost Value = { LockedRules };
+
+    ghost view = { λ s. s.shelf.now };
+
+    ghost invariant = { λ s. s.hand.is_free ≡ true };
 }
 
 impl<F: Folder> LockedShelf<F> {
@@ -64,18 +77,19 @@ impl<F: Folder> LockedShelf<F> {
         let writable = state.writable();
         LockedShelf {
             alloc,
-            kept: Mutex::new(Kept::new(state)),
+            kept: HandLock::new(Kept::new(state)),
             kind,
             writable,
         }
     }
 
     pub fn door<'a, R: Wait>(&'a self, rt: &'a R) -> ShelfDoor<'a, R, F>
-        ensures { result.shelf.now ≡ self.now }
+        ensures { result ≡ self.now }
     {
         ShelfDoor {
             rt,
             shelf: self,
+            hand: Hand::new(),
             file: ChunkFile::new(self.alloc),
         }
     }
@@ -107,26 +121,32 @@ impl<'a, R: Wait, F: Folder> ShelfDoor<'a, R, F> {
         ensures only { IfOk result (λ r. IsAnswer (kind_named F.kind) (asked_by method id.now) (answer_in r)) }
         ensures may { IfOk result (λ r. (body : List ℕ) →
             MayReply (kind_named F.kind) F.opening F.never_fails (asked_by method id.now) body (answer_in r)) }
-        ensures kept { self.new.shelf.now ≡ self.old.shelf.now }
+        ensures kept { self.new ≡ self.old }
     {
         self.file.make_room()?;
         let shelf = self.shelf;
-        shelf.kept.lock(self.rt).read(id, &mut self.file);
+        let mut guard = shelf.kept.take(self.rt, &mut self.hand);
+        guard.read(id, &mut self.file);
+        self.hand.let_go(guard);
         self.file.reply(shelf.alloc, shelf.kind(), method, id)
     }
 
     // The answer to a PUT. The digest is computed before the lock is taken.
-    fn put(&self, id: &ChunkId, body: &[u8]) -> Result<Reply, Memory>
+    fn put(&mut self, id: &ChunkId, body: &[u8]) -> Result<Reply, Memory>
         requires size { length body.now ≤ size_limit }
         ensures only { IfOk result (λ r. IsAnswer (kind_named F.kind) (act.Put id.now) (answer_in r)) }
         ensures may { IfOk result (λ r. MayReply (kind_named F.kind) F.opening F.never_fails (act.Put id.now) body.now
             (answer_in r)) }
+        ensures kept { self.new ≡ self.old }
     {
         let shelf = self.shelf;
         if !id.is_of(shelf.kind(), body) {
             return Ok(Reply::bare(shelf.alloc, 400));
         }
-        shelf.kept.lock(self.rt).put(id, body)
+        let mut held = shelf.kept.take(self.rt, &mut self.hand);
+        let put = held.put(id, body);
+        self.hand.let_go(held);
+        put
     }
 }
 
@@ -140,7 +160,7 @@ impl<'a, R: Wait, F: Folder> Shelf for ShelfDoor<'a, R, F> {
 
     ghost digest = { λ _. kind_named F.kind };
 
-    ghost takes = { λ s. s.shelf.now.writable };
+    ghost takes = { λ s. s.writable };
 
     ghost may = { MayReply (kind_named F.kind) F.opening F.never_fails };
 

@@ -12,58 +12,22 @@ ghost use Rattle.range_survey.specs.declared.fate.Fate.TheVariants as fate;
 
 use dsy_base::fault::Failed;
 use dsy_base::view::{Part, View};
+use one_lock::hand::{Hand, HandLock};
 use range_ledger::run::RunName;
 use range_ledger::shard::Shard;
 use range_survey::fate::Fate;
-use std::sync::{Mutex, MutexGuard, Wait};
-
-/// What a worker takes locks with. It holds one at a time, which is all that `is_free` is for.
-#[derive(Drop)]
-pub struct Hand {
-    is_free: bool,
-}
-
-impl Hand {
-    /// Holds no lock.
-    pub fn new() -> Hand
-        ensures { result.is_free ≡ true }
-    {
-        Hand { is_free: true }
-    }
-
-    // Takes the lock of a shard.
-    fn take<'l, 'i, W: Wait, P: Part, R: RunName>(
-        &mut self,
-        rt: &W,
-        lock: &'l Mutex<Shard<'i, P, R>>,
-    ) -> MutexGuard<'l, Shard<'i, P, R>>
-        requires free { self.old.is_free ≡ true }
-        ensures taken { self.new.is_free ≡ false }
-    {
-        self.is_free = false;
-        lock.lock(rt)
-    }
-
-    // Lets go of the lock.
-    fn let_go<P: Part, R: RunName>(&mut self, guard: MutexGuard<'_, Shard<'_, P, R>>)
-        requires taken { self.old.is_free ≡ false }
-        ensures free { self.new.is_free ≡ true }
-    {
-        drop(guard);
-        self.is_free = true;
-    }
-}
+use std::sync::Wait;
 
 /// A shard behind a lock of its own.
 #[derive(Drop)]
 pub struct ShardLock<'i, P: Part, R: RunName> {
-    shard: Mutex<Shard<'i, P, R>>,
+    shard: HandLock<Shard<'i, P, R>>,
 }
 
 impl<'i, P: Part, R: RunName> ShardLock<'i, P, R> {
     pub(crate) fn new(shard: Shard<'i, P, R>) -> ShardLock<'i, P, R> {
         ShardLock {
-            shard: Mutex::new(shard),
+            shard: HandLock::new(shard),
         }
     }
 
@@ -92,7 +56,7 @@ impl<'i, P: Part, R: RunName> ShardLock<'i, P, R> {
         ensures only { result ≡ false → IsTrue R.run.tells → IsTrue P.never_fails → ⊥ }
         ensures free { hand.new.is_free ≡ true }
     {
-        let mut guard = hand.take(rt, &self.shard);
+        let mut guard = self.shard.take(rt, hand);
         let shard = &mut *guard;
         shard.rules();
         if number == shard.number() {
@@ -129,7 +93,7 @@ impl<'i, P: Part, R: RunName> ShardLock<'i, P, R> {
         ensures only { OnErr result (IsTrue P.never_fails → ⊥) }
         ensures free { hand.new.is_free ≡ true }
     {
-        let mut guard = hand.take(rt, &self.shard);
+        let mut guard = self.shard.take(rt, hand);
         let shard = &mut *guard;
         if shard.number() == number {
             let put = shard.put(entry, chunk, fate);

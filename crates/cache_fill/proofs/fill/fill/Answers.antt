@@ -1,7 +1,10 @@
-use Rattle.std.proofs.Common.{subst, arith}
+use Rattle.std.proofs.Common.{subst, sym, arith}
 use Rattle.caibx_codec.specs.Asks.{IsListedGet}
 use Rattle.cache_fill.proofs.Filled.{asked_all, fetched_none, none_asked}
+use Rattle.cache_fill.proofs.Sparing.{all_ahead, all_spare, spared_none}
+use Rattle.cache_fill.specs.Fetching.{MarksLacking}
 use Rattle.cache_fill.specs.FillProgress.{FillAnswers, shelf_at}
+use Rattle.cache_store.specs.Shelves.{held_on}
 use Rattle.cache_store.specs.Through.{Behind}
 use Rattle.store_chain.proofs.Kept.{kept_still}
 use Rattle.cache_fill.proofs.fill.fill.Goals as goal
@@ -17,6 +20,20 @@ returns-in_default-clause-stores g c = kept_still g.S.Store (IsListedGet c.args.
 
 pub returns-in_default-clause-further : goal.returns-in_default-clause-further
 returns-in_default-clause-further g c = fetched_none g.S.Store c.args.index.now c.args.further.now.items
+
+pub returns-in_default-clause-unasked : goal.returns-in_default-clause-unasked
+returns-in_default-clause-unasked g c =
+    spared_none g.S.Store.asked (held_on (shelf_at g.F.Look g.S.Store c.args.cached.now)) c.args.further.now.items
+
+pub returns-clause-further : goal.returns-clause-further
+returns-clause-further g c =
+    all_ahead c.args.index.now g.S.Store c.deref.result.now c.args.further.now.items c.fill_beside.new.further.items c.fill_beside.ensures.further
+
+pub returns-clause-unasked : goal.returns-clause-unasked
+returns-clause-unasked g c =
+    let held = held_on (shelf_at g.F.Look g.S.Store c.args.cached.now) in
+    let lacks = subst (MarksLacking c.args.index.now held) (sym c.deref.ensures.value) c.list_ahead-lacking.ensures.only in
+    all_spare c.args.index.now g.S.Store c.deref.result.now held lacks c.args.further.now.items c.fill_beside.new.further.items c.fill_beside.ensures.further
 
 pub returns-clause-exactly : goal.returns-clause-exactly
 returns-clause-exactly g c = λ m maps nothing.

@@ -2,14 +2,14 @@ use Rattle.std.proofs.Common.{◌≡◌, All, ap, arith, map, subst, sym, ◌∙
 use Rattle.std.specs.List.{AllZip}
 use Rattle.std.proofs.lemmas.List.{with_items_is}
 use Rattle.caibx_codec.specs.Listing.{kind_of}
-use Rattle.cache_fill.proofs.Filled.{fetched_none}
+use Rattle.cache_fill.proofs.Sparing.{marked_still}
 use Rattle.cache_fill.proofs.Progress.{chains_back, hired_all}
-use Rattle.cache_fill.specs.Filling.{FetchesAhead}
+use Rattle.cache_fill.specs.Fetching.{FetchesMarked}
 use Rattle.store_chain.specs.Chains.{Chained}
 use Rattle.cache_fill.proofs.fill.fill_beside.Goals as goal
 
 pub returns-then-not-may_hire-clause-further : goal.returns-then-not-may_hire-clause-further
-returns-then-not-may_hire-clause-further g c = fetched_none g.S.Store c.args.index.now c.args.further.now.items
+returns-then-not-may_hire-clause-further g c = marked_still g.S.Store c.args.index.now c.args.lacking.now c.args.further.now.items
 
 pub fill_entries-filled-requires-clause-kinds : goal.fill_entries-filled-requires-clause-kinds
 fill_entries-filled-requires-clause-kinds g c = λ lifetimes bounds.
@@ -23,7 +23,7 @@ fill_entries-filled-requires-clause-alike g c = λ lifetimes bounds.
 
 pub returns-clause-further : goal.returns-clause-further
 returns-clause-further g c =
-    let K = FetchesAhead g.S.Store c.args.index.now in
+    let K = FetchesMarked g.S.Store c.args.index.now c.args.lacking.now in
     let rs = c.hire.new.readers.items in
     let news = c.fill_entries-filled.new.readers in
     let items = with_items_is c.hire.new.readers news (omega (arith, c.fill_entries-filled.auto.readers, c.deref_mut-2.ensures.len)) in

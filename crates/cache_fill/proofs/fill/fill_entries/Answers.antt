@@ -24,4 +24,4 @@ returns-clause-answers g c =
 
 pub returns-clause-further : goal.returns-clause-further
 returns-clause-further g c =
-    readers_end g.S.Store c.args.index.now c.args.readers.now c.take_all-filled.new.readers c.requires.same (c.take_all-filled.ensures.readers c.args.readers.now (readers_begin g.S.Store c.args.readers.now c.requires.unasked))
+    readers_end g.S.Store c.args.index.now c.args.lacking.now c.args.readers.now c.take_all-filled.new.readers c.requires.same c.requires.marked (c.take_all-filled.ensures.readers c.args.readers.now (readers_begin g.S.Store c.args.readers.now c.requires.unasked))

@@ -16,7 +16,7 @@ returns-in_default-obtain-clause-on g c = λ first was.
     let r = c.args.self.now in
     let id = c.entry-entry.result.id.0 in
     let is_id = c.entry-entry.ensures.id in
-    fetches_more g.S.Store r.index.now c.args.i c.requires.listed r.asked c.in-Some.asked c.requires.order c.in-Some.ensures first r.chain c.obtain.new.self
+    fetches_more g.S.Store r.index.now r.lacking.now c.args.i c.requires.listed c.requires.marked r.asked c.in-Some.asked c.requires.order c.in-Some.ensures first r.chain c.obtain.new.self
     (subst (λ (q : List ℕ). AsksOnce g.S.Store.asked g.S.Store.queried q r.chain c.obtain.new.self) is_id c.obtain.ensures.asks)
     (entry_kept g.S.Store r.index.now c.args.i id r.chain.stores c.obtain.new.self.stores is_id c.obtain.ensures.kept) was
 
@@ -37,6 +37,6 @@ returns-clause-on g c = λ first was.
     let r = c.args.self.now in
     let id = c.entry-entry.result.id.0 in
     let is_id = c.entry-entry.ensures.id in
-    fetches_more g.S.Store r.index.now c.args.i c.requires.listed r.asked c.in-Some.asked c.requires.order c.in-Some.ensures first r.chain c.obtain.new.self
+    fetches_more g.S.Store r.index.now r.lacking.now c.args.i c.requires.listed c.requires.marked r.asked c.in-Some.asked c.requires.order c.in-Some.ensures first r.chain c.obtain.new.self
     (subst (λ (q : List ℕ). AsksOnce g.S.Store.asked g.S.Store.queried q r.chain c.obtain.new.self) is_id c.obtain.ensures.asks)
     (entry_kept g.S.Store r.index.now c.args.i id r.chain.stores c.obtain.new.self.stores is_id c.obtain.ensures.kept) was

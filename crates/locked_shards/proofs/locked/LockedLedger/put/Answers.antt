@@ -1,10 +1,12 @@
-use Rattle.std.proofs.Common.{◌≡◌, set, false, subst, arith, rules}
+use Rattle.std.proofs.Common.{◌≡◌, ◌∙◌, ◌<◌, length, set, false, subst, sym, ap, arith}
+use Rattle.std.proofs.lemmas.List.{get_or_default}
 use Rattle.dsy_base.specs.Counts.{Rose}
 use Rattle.locked_shards.proofs.Knowing.{both_true, known_set, rose_by_one}
 use Rattle.locked_shards.specs.Known.{Knowledge}
 use Rattle.owned_shards.proofs.Writes.{grows_none, grows_set}
 use Rattle.range_ledger.specs.Fills.{Grows}
-use Rattle.range_survey.specs.Fates.{settled}
+use Rattle.range_survey.specs.Fates.{is_settled, settled}
+use Rattle.range_survey.specs.declared.fate.Fate.TheVariants as fate
 use Rattle.locked_shards.proofs.locked.LockedLedger.put.Goals as goal
 
 pub invariant_of-self : goal.invariant_of-self
@@ -27,9 +29,11 @@ invariant_of-self-in-Err g c = (
 
 pub returns-in-Ok-clause-grows : goal.returns-in-Ok-clause-grows
 returns-in-Ok-clause-grows g c =
-    let unset : settled c.self.inside.known.items c.args.entry ≡ false = search rules in
-    subst (λ (w : Knowledge). Grows w.fates (set c.self.inside.known.items c.args.entry c.args.fate)) c.self.view_is
-    (grows_set c.self.inside.known.items c.args.entry c.args.fate (omega (arith, c.requires.listed, c.self.invariant.2.size)) unset c.requires.made)
+    let known = c.self.inside.known.items in
+    let inside : c.args.entry < length known = omega (arith, c.requires.listed, c.self.invariant.2.size) in
+    let is = get_or_default known c.args.entry fate.Open c.index.result.now inside ∙ sym c.index.ensures in
+    let unset : settled known c.args.entry ≡ false = ap is_settled is ∙ sym c.is_settled.ensures ∙ c.if-is_settled.false in
+    subst (λ (w : Knowledge). Grows w.fates (set known c.args.entry c.args.fate)) c.self.view_is (grows_set known c.args.entry c.args.fate inside unset c.requires.made)
 
 pub returns-in-Err-clause-grows : goal.returns-in-Err-clause-grows
 returns-in-Err-clause-grows g c = subst (λ (w : Knowledge). Grows w.fates c.self.inside.known.items) c.self.view_is (grows_none c.self.inside.known.items)
