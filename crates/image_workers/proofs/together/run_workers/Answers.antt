@@ -6,7 +6,6 @@ use Rattle.std.specs.Vec.{with_items}
 use Rattle.assembler.specs.OneKit.{lent}
 use Rattle.assembler.specs.Stages.{task, Stage}
 use Rattle.assembler.specs.declared.fault.ExtractFault.TheVariants as faults
-use Rattle.assembler.specs.declared.fault.ExtractFault.{ExtractFault}
 use Rattle.caibx_codec.specs.Listing.{count_of, kind_of}
 use Rattle.assembler.proofs.Others.{seen_alone}
 use Rattle.cache_store.specs.Shelves.{MayAdd, Shelf, Shelved}
