@@ -1,4 +1,4 @@
-use Rattle.std.proofs.Common.{◌≡◌, ◌∙◌, ◌≤◌, ℕ, [], All, vec_capacity, subst, sym, arith}
+use Rattle.std.proofs.Common.{◌≡◌, ◌∙◌, ◌≤◌, ℕ, [], All, vec_capacity, subst, arith}
 use Rattle.image_assembly.proofs.prepare.rooms_of.Goals as goal
 
 pub returns-clause-many : goal.returns-clause-many
