@@ -124,7 +124,7 @@ impl Names {
 
 /// What the words say. `sizes` are the least, the average and the greatest chunk size in bytes, not
 /// yet judged. `offset` and `length` are bytes of the image; where no length is given all that
-/// follows is meant.
+/// follows is meant. `retries` is how often a call on a store that failed is made again.
 #[derive(Debug, Drop)]
 pub enum Command {
     Make {
@@ -136,7 +136,8 @@ pub enum Command {
         image: Name,
     },
     Extract {
-        stores: Locations,
+        stores: Groups,
+        retries: u32,
         seeds: Names,
         cache: Option<Name>,
         in_place: bool,
@@ -145,7 +146,8 @@ pub enum Command {
         target: Name,
     },
     Cat {
-        stores: Locations,
+        stores: Groups,
+        retries: u32,
         offset: u64,
         length: Option<u64>,
         index: Name,
@@ -162,7 +164,8 @@ pub enum Command {
         image: Name,
     },
     Cache {
-        stores: Locations,
+        stores: Groups,
+        retries: u32,
         cache: Name,
         workers: u32,
         indexes: Names,
@@ -171,7 +174,8 @@ pub enum Command {
         index: Name,
     },
     Info {
-        stores: Locations,
+        stores: Groups,
+        retries: u32,
         index: Name,
     },
     Verify {
