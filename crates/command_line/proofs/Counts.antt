@@ -1,14 +1,14 @@
 -- How often each role stands among words that have passed.
-use Rattle.std.proofs.Common.{◌≡◌, ◌<◌, ◌≤◌, ℕ, zero, suc, ◌+◌, Bool, true, false, List, [], ◌∷◌, ◌++◌, length, get_or, take, nat_lt, nat_eq, codes, ◌==◌, if◌then◌else◌, Option, Some, None, is_some, option_map, Ok, Err, refl, sym, ap, subst, ◌∙◌, arith, inl, inr, add-one, eq-eqb, ne_eqb, Result}
+use Rattle.std.proofs.Common.{◌≡◌, ◌<◌, ◌≤◌, ℕ, zero, suc, ◌+◌, Bool, true, false, List, [], ◌∷◌, ◌++◌, length, get_or, take, nat_lt, nat_eq, codes, ◌==◌, if◌then◌else◌, Option, Some, None, is_some, option_map, Ok, Err, refl, sym, ap, ap₂, subst, ◌∙◌, arith, inl, inr, add-one, eq-eqb, ne_eqb, Result}
 use Rattle.std.proofs.lemmas.Bool.{cond-true, cond-false, cases_eq, ltb-true, true≢false}
 use Rattle.std.proofs.lemmas.Option.{none-some}
-use Rattle.std.proofs.lemmas.List.{take_all}
+use Rattle.std.proofs.lemmas.List.{take_all, take_more}
 use Rattle.std.proofs.lemmas.List.Sums.{sum_by_push}
 use Rattle.std.specs.List.{starts_with}
 use Rattle.std.specs.Str.{bytes_eq}
 use Rattle.command_line.specs.declared.judge.Refusal.{Refusal}
 use Rattle.command_line.specs.declared.judge.Refusal.TheVariants as refusal
-use Rattle.command_line.specs.Judging.{unless, name_operand_refusal, demo_operand_refusal, refusal_of, refusal_at, first_refused, fault_at, fault_by, judged}
+use Rattle.command_line.specs.Judging.{unless, name_operand_refusal, demo_operand_refusal, refusal_of, refusal_after, refusal_at, first_refused, fault_at, fault_by, judged, words_by_role}
 use Rattle.command_words.specs.declared.option_table.CommandKind.{CommandKind}
 use Rattle.command_words.specs.declared.option_table.OptionKind.{OptionKind}
 use Rattle.command_words.specs.declared.option_table.OptionKind.TheVariants as option
@@ -18,7 +18,7 @@ use Rattle.command_words.specs.declared.roles.Role.TheVariants as role
 use Rattle.command_words.specs.declared.usage.UsageWhy.{UsageWhy}
 use Rattle.command_words.specs.declared.usage.WordsFault.{WordsFault}
 use Rattle.command_words.specs.OptionTable.{option_named, option_number, takes_value, times_of, takes_of}
-use Rattle.command_words.specs.Roles.{option_role, opens, awaited, times_of_role, role_number, spelled_role, role_of, roles_of}
+use Rattle.command_words.specs.Roles.{WordsByRole, by_role, option_role, opens, awaited, times_of_role, role_number, spelled_role, role_of, roles_of}
 use Rattle.command_line.proofs.Following.{awaited_after, found, missed, is_none, is_one}
 use Rattle.command_line.proofs.Judged.{Pass, roles_more}
 
@@ -38,7 +38,8 @@ option_at n =
     else (if n == 9 then option.Writable
     else (if n == 10 then option.Digest
     else (if n == 11 then option.Offset
-    else option.Length)))))))))))
+    else (if n == 12 then option.Length
+    else option.Retries))))))))))))
 
 at_number : (o : OptionKind) → option_at (option_number o) ≡ o
 unfolding option_at
@@ -55,6 +56,7 @@ at_number option.Writable = refl
 at_number option.Digest = refl
 at_number option.Offset = refl
 at_number option.Length = refl
+at_number option.Retries = refl
 
 same_option : (p o : OptionKind) → option_number p ≡ option_number o → p ≡ o
 same_option p o e = sym (at_number p) ∙ ap option_at e ∙ at_number o
@@ -92,23 +94,27 @@ none_more q r roles other =
 
 -- ---- along the words
 
--- what holds of no role and stays with each word that passes holds of all of them
-along : (k : CommandKind) (words : List (List ℕ)) (P : List Role → Type 0) → P []
-    → ((before : List Role) (w : List ℕ) → refusal_of k before (role_of k before w) w ≡ None → P before → P (before ++ role_of k before w ∷ []))
-    → (n : ℕ) → n ≤ length words → Pass k words n → P (roles_of k (take n words))
+-- what stays with each word that passes
+abbrev pub Stays : CommandKind → (WordsByRole → Type 0) → Type 0
+Stays k P = (before : List (List ℕ)) (w : List ℕ) → refusal_after k before w ≡ None → P (words_by_role k before)
+    → P (by_role (roles_of k before ++ role_of k (roles_of k before) w ∷ []) (before ++ w ∷ []))
+
+-- what holds of no words and stays with each that passes holds of all of them
+along : (k : CommandKind) (words : List (List ℕ)) (P : WordsByRole → Type 0) → P (by_role [] []) → Stays k P
+    → (n : ℕ) → n ≤ length words → Pass k words n → P (words_by_role k (take n words))
 along k words P none more zero le pass = none
 along k words P none more (suc n) le pass =
     let w = get_or words n [] in
     let before = roles_of k (take n words) in
-    let e : roles_of k (take (suc n) words) ≡ before ++ role_of k before w ∷ []
+    let roles : roles_of k (take (suc n) words) ≡ before ++ role_of k before w ∷ []
     = ap (λ i. roles_of k (take i words)) (sym (add-one n)) ∙ roles_more k words n (omega (arith, le)) in
-    subst P (sym e) (more before w (pass n (omega arith)) (along k words P none more n (omega (arith, le)) (λ j l. pass j (omega (arith, l)))))
+    let taken : take (suc n) words ≡ take n words ++ w ∷ []
+    = ap (λ i. take i words) (sym (add-one n)) ∙ take_more words n [] (omega (arith, le)) in
+    subst P (ap₂ by_role (sym roles) (sym taken)) (more (take n words) w (pass n (omega arith)) (along k words P none more n (omega (arith, le)) (λ j l. pass j (omega (arith, l)))))
 
-pub along_all : (k : CommandKind) (words : List (List ℕ)) (P : List Role → Type 0) → P []
-    → ((before : List Role) (w : List ℕ) → refusal_of k before (role_of k before w) w ≡ None → P before → P (before ++ role_of k before w ∷ []))
-    → Pass k words (length words) → P (roles_of k words)
+pub along_all : (k : CommandKind) (words : List (List ℕ)) (P : WordsByRole → Type 0) → P (by_role [] []) → Stays k P → Pass k words (length words) → P (words_by_role k words)
 along_all k words P none more pass =
-    subst P (ap (roles_of k) (take_all (length words) words (omega arith))) (along k words P none more (length words) (omega arith) pass)
+    subst P (ap (words_by_role k) (take_all (length words) words (omega arith))) (along k words P none more (length words) (omega arith) pass)
 
 -- ---- no option and no operand stands more often than it may
 
@@ -129,9 +135,9 @@ at_most q r roles most le lt = elim (cases_eq (role_number r) (role_number q)) [
 ]
 
 pub options_bounded : (k : CommandKind) (words : List (List ℕ)) (o : OptionKind) → Pass k words (length words) → times_of_role (role.Given o) (roles_of k words) ≤ (times_of k o).greatest
-options_bounded k words o = along_all k words (λ roles. times_of_role (role.Given o) roles ≤ (times_of k o).greatest) (omega arith)
-    (λ before w ok le. let r = role_of k before w in at_most (role.Given o) r before (times_of k o).greatest le (λ same.
-    let ok : refusal_of k before (role.Given o) w ≡ None = subst (λ q. refusal_of k before q w ≡ None) (given_is r o same) ok in
+options_bounded k words o = along_all k words (λ p. times_of_role (role.Given o) p.roles ≤ (times_of k o).greatest) (omega arith)
+    (λ before w ok le. let r = role_of k (roles_of k before) w in at_most (role.Given o) r (roles_of k before) (times_of k o).greatest le (λ same.
+    let ok : refusal_of k (words_by_role k before) (role.Given o) w ≡ None = subst (λ q. refusal_of k (words_by_role k before) q w ≡ None) (given_is r o same) ok in
     ltb-true _ _ (is_right _ _ ok)))
 
 few_operands : (takes : Takes) (n : ℕ) (w : List ℕ) (b : Bool) → b ≡ false → (if b then demo_operand_refusal n w else name_operand_refusal takes n w) ≡ None → n < takes.operands.greatest
@@ -139,10 +145,10 @@ few_operands takes n w true named e = absurd (true≢false named)
 few_operands takes n w false named e = ltb-true _ _ (named_right _ _ _ _ _ e).0
 
 pub operands_bounded : (k : CommandKind) (words : List (List ℕ)) → (takes_of k).takes_numbers ≡ false → Pass k words (length words) → times_of_role role.Operand (roles_of k words) ≤ (takes_of k).operands.greatest
-operands_bounded k words names = along_all k words (λ roles. times_of_role role.Operand roles ≤ (takes_of k).operands.greatest) (omega arith)
-    (λ before w ok le. let r = role_of k before w in at_most role.Operand r before (takes_of k).operands.greatest le (λ same.
-    let ok : refusal_of k before role.Operand w ≡ None = subst (λ q. refusal_of k before q w ≡ None) (operand_is r same) ok in
-    few_operands (takes_of k) (times_of_role role.Operand before) w (takes_of k).takes_numbers names ok))
+operands_bounded k words names = along_all k words (λ p. times_of_role role.Operand p.roles ≤ (takes_of k).operands.greatest) (omega arith)
+    (λ before w ok le. let r = role_of k (roles_of k before) w in at_most role.Operand r (roles_of k before) (takes_of k).operands.greatest le (λ same.
+    let ok : refusal_of k (words_by_role k before) role.Operand w ≡ None = subst (λ q. refusal_of k (words_by_role k before) q w ≡ None) (operand_is r same) ok in
+    few_operands (takes_of k) (times_of_role role.Operand (roles_of k before)) w (takes_of k).takes_numbers names ok))
 
 -- ---- an option with a value has one
 
@@ -230,7 +236,7 @@ pub values_counted : (k : CommandKind) (words : List (List ℕ)) (o : OptionKind
     → times_of_role (role.Value o) (roles_of k words) ≡ times_of_role (role.Given o) (roles_of k words)
 unfolding waits
 values_counted k words o takes pass ended =
-    let e = along_all k words (Paired o) refl (λ before w ok e. paired_more k o before w (awaited before) takes refl e) pass in
+    let e = along_all k words (λ p. Paired o p.roles) refl (λ before w ok e. paired_more k o (roles_of k before) w (awaited (roles_of k before)) takes refl e) pass in
     omega (arith, e, ap (waits o) ended)
 
 -- ---- words that are judged right

@@ -6,12 +6,12 @@ use Rattle.std.proofs.lemmas.List.Sums.{fold_push}
 use Rattle.std.specs.List.{find, range_with_len}
 use Rattle.command_line.specs.declared.judge.Refusal.{Refusal}
 use Rattle.command_line.specs.declared.judge.Refusal.TheVariants as refusal
-use Rattle.command_line.specs.Judging.{RefusesWords, AnswersBy, refusal_of, refusal_at, fault_by, first_word_fault, fault_at, judged}
+use Rattle.command_line.specs.Judging.{RefusesWords, AnswersBy, refusal_of, refusal_at, fault_by, first_word_fault, fault_at, judged, words_by_role}
 use Rattle.command_words.specs.declared.option_table.CommandKind.{CommandKind}
 use Rattle.command_words.specs.declared.roles.Role.{Role}
 use Rattle.command_words.specs.declared.usage.UsageWhy.TheVariants as why
 use Rattle.command_words.specs.declared.usage.WordsFault.TheVariants as fault
-use Rattle.command_words.specs.Roles.{awaited, role_of, roles_of}
+use Rattle.command_words.specs.Roles.{WordsByRole, awaited, role_of, roles_of}
 
 -- ---- the first number that passes a test
 
@@ -34,9 +34,9 @@ pub roles_more : (k : CommandKind) (words : List (List ℕ)) (i : ℕ) → i < l
 roles_more k words i lt = ap (roles_of k) (take_more words i [] lt) ∙ fold_push (λ before w. before ++ role_of k before w ∷ []) [] (take i words) (get_or words i [])
 
 -- what a word is judged by
-pub judged_here : (k : CommandKind) (words : List (List ℕ)) (i : ℕ) (before : List Role) (r : Role) (w : List ℕ)
-    → before ≡ roles_of k (take i words) → r ≡ role_of k before w → w ≡ get_or words i [] → refusal_of k before r w ≡ refusal_at k words i
-judged_here k words i before r w b e w' = ap (λ x. refusal_of k before x w) e ∙ ap₂ (λ b x. refusal_of k b (role_of k b x) x) b w'
+pub judged_here : (k : CommandKind) (words : List (List ℕ)) (i : ℕ) (before : WordsByRole) (r : Role) (w : List ℕ)
+    → before ≡ words_by_role k (take i words) → r ≡ role_of k before.roles w → w ≡ get_or words i [] → refusal_of k before r w ≡ refusal_at k words i
+judged_here k words i before r w b e w' = ap (λ x. refusal_of k before x w) e ∙ ap₂ (λ b x. refusal_of k b (role_of k b.roles x) x) b w'
 
 -- none of them is refused
 abbrev pub Pass : CommandKind → List (List ℕ) → ℕ → Type 0

@@ -5,3 +5,4 @@ pub mod Limits
 pub mod Lists
 pub mod NoRoom
 pub mod Passing
+pub mod Stores

@@ -1,14 +1,17 @@
 -- The commands that words say keep the limits of the table of options, and each index has a place.
-use Rattle.std.proofs.Common.{◌≡◌, ◌<◌, ◌≤◌, ℕ, suc, All, not, ◌+◌, ◌*◌, ◌-◌, ◌&&◌, ◌||◌, Bool, true, false, List, [], ◌∷◌, length, nat_lt, nat_le, codes, if◌then◌else◌, Option, Some, None, unwrap_or, Result, Ok, Err, IfOk, refl, sym, ap, subst, ◌∙◌, arith}
+use Rattle.std.proofs.Common.{◌≡◌, ◌<◌, ◌≤◌, ℕ, suc, All, not, ◌+◌, ◌*◌, ◌-◌, ◌&&◌, ◌||◌, Bool, true, false, List, [], ◌∷◌, length, get_or, map, sum_by, nat_lt, nat_le, ◌==◌, codes, if◌then◌else◌, Option, Some, None, unwrap_or, Result, Ok, Err, IfOk, refl, sym, ap, ap₂, subst, ◌∙◌, arith}
 use Rattle.std.specs.Char.{is_ascii_digit}
 use Rattle.std.proofs.lemmas.Bool.{cond-true, leb-true, lt-ltb, ltb-false, true≢false}
 use Rattle.std.proofs.lemmas.Option.{none-some}
 use Rattle.std.proofs.lemmas.List.{length-map}
-use Rattle.std.proofs.lemmas.List.Elements.{All-from_get_or}
-use Rattle.command_line.specs.CommandLine.{command_by, command_line, command_by_roles, command_or_help, command_with, complete, is_alone, number, operand, read_location, stores, ReadsWords}
-use Rattle.command_line.specs.Judging.{demo_operand_refusal, index_refusal, is_empty, judged, lacks, missing_words, name_operand_refusal, name_refusal, operand_refusal, place_refusal, value_refusal}
+use Rattle.std.proofs.lemmas.List.Elements.{All-from_get_or, All-map}
+use Rattle.std.proofs.lemmas.List.Splits.{length-slice_split}
+use Rattle.std.proofs.lemmas.List.Sums.{sum_by-cons}
+use Rattle.command_line.specs.CommandLine.{command_by, command_line, command_by_roles, command_or_help, command_with, complete, is_alone, number, operand, read_location, group_of, retries, stores, value, ReadsWords}
+use Rattle.command_line.specs.Judging.{demo_operand_refusal, index_refusal, is_empty, judged, lacks, missing_words, name_operand_refusal, name_refusal, operand_refusal, place_refusal, stores_named}
 use Rattle.command_words.specs.declared.command.Command.{Command}
 use Rattle.command_words.specs.declared.command.Command.TheVariants as said
+use Rattle.command_words.specs.declared.command.Location.{Location}
 use Rattle.command_words.specs.declared.location.IndexPlace.{IndexPlace}
 use Rattle.command_words.specs.declared.location.NoLocation.{NoLocation}
 use Rattle.command_words.specs.declared.location.NoLocation.TheVariants as no
@@ -22,15 +25,15 @@ use Rattle.command_words.specs.declared.roles.Role.TheVariants as role
 use Rattle.command_words.specs.declared.usage.UsageWhy.{UsageWhy}
 use Rattle.command_words.specs.declared.usage.UsageWhy.TheVariants as why
 use Rattle.command_words.specs.declared.usage.WordsFault.{WordsFault}
-use Rattle.command_words.specs.Limits.{Fits}
-use Rattle.command_words.specs.Locations.{location_of, index_place_of, is_index_url, NamesIndex}
-use Rattle.command_words.specs.OptionTable.{times, names, folder_and_indexes, written_index, command_named, takes_of, takes_value, times_of, command_rows, option_rows}
+use Rattle.command_words.specs.Limits.{AreFewStores, Fits}
+use Rattle.command_words.specs.Locations.{location_of, parts_of, index_place_of, is_index_url, NamesIndex}
+use Rattle.command_words.specs.OptionTable.{times, names, folder_and_indexes, written_index, command_named, takes_groups, takes_of, takes_value, times_of, command_rows, option_rows}
 use Rattle.command_words.specs.Roles.{by_role, times_of_role, words_as, word_as}
 use Rattle.command_words.specs.Values.{ends_in_caibx, is_seed, number_in_word, number_up_to, with_digit, with_digits}
 use Rattle.command_line.proofs.Counts.{Passes, is_right, judged_right, named_right, operands_bounded, options_bounded, values_counted}
 use Rattle.command_line.proofs.Following.{roles_length}
 use Rattle.command_line.proofs.Lists.{words_counted}
-use Rattle.command_line.proofs.Passing.{operands_pass, values_pass}
+use Rattle.command_line.proofs.Passing.{PassesAs, operands_pass, stores_few, values_pass}
 
 -- ---- the rows that limit
 
@@ -38,7 +41,6 @@ record Rows : Type 0 where
   stores_of_extract : times_of command.Extract option.Store ≡ times 1 16
   seeds_of_extract : times_of command.Extract option.Seed ≡ times 0 64
   stores_of_cache : times_of command.Cache option.Store ≡ times 1 16
-  stores_of_info : times_of command.Info option.Store ≡ times 0 16
   stores_of_cat : times_of command.Cat option.Store ≡ times 1 16
   names_of_make : takes_of command.Make ≡ written_index
   names_of_extract : takes_of command.Extract ≡ names 2 2 1
@@ -49,6 +51,10 @@ record Rows : Type 0 where
   names_of_list_chunks : takes_of command.ListChunks ≡ names 1 1 1
   names_of_info : takes_of command.Info ≡ names 1 1 1
   names_of_prune : takes_of command.Prune ≡ folder_and_indexes 1 64
+  groups_of_extract : takes_groups command.Extract ≡ true
+  groups_of_cat : takes_groups command.Cat ≡ true
+  groups_of_cache : takes_groups command.Cache ≡ true
+  groups_of_info : takes_groups command.Info ≡ true
   store_takes : takes_value option.Store ≡ true
   seed_takes : takes_value option.Seed ≡ true
 
@@ -58,7 +64,6 @@ rows = record {
   stores_of_extract = refl;
   seeds_of_extract = refl;
   stores_of_cache = refl;
-  stores_of_info = refl;
   stores_of_cat = refl;
   names_of_make = refl;
   names_of_extract = refl;
@@ -69,6 +74,10 @@ rows = record {
   names_of_list_chunks = refl;
   names_of_info = refl;
   names_of_prune = refl;
+  groups_of_extract = refl;
+  groups_of_cat = refl;
+  groups_of_cache = refl;
+  groups_of_info = refl;
   store_takes = refl;
   seed_takes = refl;
 }
@@ -93,7 +102,8 @@ record Counts (k : CommandKind) (roles : List Role) (words : List (List ℕ)) : 
   operands_greatest : (takes_of k).takes_numbers ≡ false → times_of_role role.Operand roles ≤ (takes_of k).operands.greatest
   as_many : (r : Role) → length (words_as r roles words) ≡ times_of_role r roles
   operands_pass : (i : ℕ) → i < times_of_role role.Operand roles → operand_refusal k i (word_as role.Operand i roles words) ≡ None
-  values_pass : (o : OptionKind) (i : ℕ) → i < times_of_role (role.Value o) roles → value_refusal k o (word_as (role.Value o) i roles words) ≡ None
+  values_pass : (o : OptionKind) (i : ℕ) → i < times_of_role (role.Value o) roles → PassesAs k o (word_as (role.Value o) i roles words)
+  few : takes_groups k ≡ true → stores_named (by_role roles words) ≤ 16
 
 counts : (k : CommandKind) (words : List (List ℕ)) (roles : List Role) → Passes k words roles → missing_words k roles ≡ None → Counts k roles words
 counts k words roles p none =
@@ -107,11 +117,12 @@ counts k words roles p none =
       operands_greatest = λ names. subst (λ r. times_of_role role.Operand r ≤ (takes_of k).operands.greatest) (sym p.roles_are) (operands_bounded k words names p.pass);
       as_many = λ r. words_counted r roles words (ap length p.roles_are ∙ roles_length k words);
       operands_pass = subst (λ r. (i : ℕ) → i < times_of_role role.Operand r → operand_refusal k i (word_as role.Operand i r words) ≡ None) (sym p.roles_are) (operands_pass k words p.pass);
-      values_pass = λ o. subst (λ r. (i : ℕ) → i < times_of_role (role.Value o) r → value_refusal k o (word_as (role.Value o) i r words) ≡ None) (sym p.roles_are) (values_pass k words o p.pass);
+      values_pass = λ o. subst (λ r. (i : ℕ) → i < times_of_role (role.Value o) r → PassesAs k o (word_as (role.Value o) i r words)) (sym p.roles_are) (values_pass k words o p.pass);
+      few = λ groups. subst (λ r. stores_named (by_role r words) ≤ 16) (sym p.roles_are) (stores_few k words groups p.pass);
     }
 
 stores_counted : (k : CommandKind) (roles : List Role) (words : List (List ℕ)) → Counts k roles words → length (stores (by_role roles words)) ≡ times_of_role (role.Value option.Store) roles
-stores_counted k roles words c = length-map (words_as (role.Value option.Store) roles words) (λ w. read_location (location_of w)) ∙ c.as_many (role.Value option.Store)
+stores_counted k roles words c = length-map (words_as (role.Value option.Store) roles words) group_of ∙ c.as_many (role.Value option.Store)
 
 -- ---- a number
 
@@ -154,6 +165,27 @@ unwrapped most (Some n) small = small n refl
 
 number_bounded : (most : ℕ) (w : List ℕ) → number most w ≤ most
 number_bounded most w = unwrapped most (number_in_word 0 most w) (λ n. from_by 0 most n (number_up_to most w) (λ m. else_by most m _ (with_digits most 0 w) (λ d. digits_bounded most 0 d w (omega arith))))
+
+-- ---- groups of stores
+
+group_counted : (w : List ℕ) → length (group_of w) ≡ length (parts_of w)
+group_counted w = length-map (parts_of w) (λ part. read_location (location_of part))
+
+each_has : (ws : List (List ℕ)) → All (λ (g : List Location). 1 ≤ length g) (map group_of ws)
+each_has ws = All-map (λ g. 1 ≤ length g) group_of ws (All-from_get_or (λ w. 1 ≤ length (group_of w)) ws [] (λ i lt.
+    let w = get_or ws i [] in
+    omega (arith, group_counted w, length-slice_split (λ c. c == 124) w)))
+
+groups_counted : (ws : List (List ℕ)) → sum_by length (map group_of ws) ≡ sum_by (λ w. length (parts_of w)) ws
+groups_counted [] = refl
+groups_counted (w ∷ ws) = sum_by-cons length (group_of w) (map group_of ws) ∙ ap₂ (λ m n. m + n) (group_counted w) (groups_counted ws) ∙ sym (sum_by-cons (λ v. length (parts_of v)) w ws)
+
+few_stores : (k : CommandKind) (roles : List Role) (words : List (List ℕ)) → Counts k roles words → takes_groups k ≡ true → AreFewStores (stores (by_role roles words)) (retries (by_role roles words))
+few_stores k roles words c groups = (
+  each_has (words_as (role.Value option.Store) roles words),
+  omega (arith, groups_counted (words_as (role.Value option.Store) roles words), c.few groups),
+  number_bounded 16 (value option.Retries (by_role roles words)),
+)
 
 -- ---- the place of an index
 
@@ -219,7 +251,7 @@ seeds_all : (k : CommandKind) (roles : List Role) (words : List (List ℕ)) → 
 seeds_all k roles words c =
     All-from_get_or (λ w. is_index_url w ≡ false) (words_as (role.Value option.Seed) roles words) [] (λ i lt.
     let w = word_as (role.Value option.Seed) i roles words in
-    both_true (ends_in_caibx w) (is_index_url w) (seed_by (is_empty w) (is_seed w) (c.values_pass option.Seed i (omega (arith, lt, c.as_many (role.Value option.Seed))))))
+    both_true (ends_in_caibx w) (is_index_url w) (seed_by (is_empty w) (is_seed w) (c.values_pass option.Seed i (omega (arith, lt, c.as_many (role.Value option.Seed)))).1))
 
 -- ---- each command
 
@@ -232,7 +264,7 @@ kept command.Make roles words c = index_of_make roles words c
 kept command.Extract roles words c =
     let stores = stores_counted command.Extract roles words c in (
       omega (arith, stores, c.least, ap (λ t. t.least) rows.stores_of_extract),
-      omega (arith, stores, c.greatest option.Store rows.store_takes, ap (λ t. t.greatest) rows.stores_of_extract),
+      few_stores command.Extract roles words c rows.groups_of_extract,
       omega (arith, c.as_many (role.Value option.Seed), c.greatest option.Seed rows.seed_takes, ap (λ t. t.greatest) rows.seeds_of_extract),
       seeds_all command.Extract roles words c,
       index_first command.Extract roles words 1 c rows.names_of_extract,
@@ -240,7 +272,7 @@ kept command.Extract roles words c =
 kept command.Cat roles words c =
     let stores = stores_counted command.Cat roles words c in (
       omega (arith, stores, c.least, ap (λ t. t.least) rows.stores_of_cat),
-      omega (arith, stores, c.greatest option.Store rows.store_takes, ap (λ t. t.greatest) rows.stores_of_cat),
+      few_stores command.Cat roles words c rows.groups_of_cat,
       index_first command.Cat roles words 0 c rows.names_of_cat,
     )
 kept command.VerifyIndex roles words c = index_first command.VerifyIndex roles words 1 c rows.names_of_verify_index
@@ -248,14 +280,14 @@ kept command.Chop roles words c = index_first command.Chop roles words 1 c rows.
 kept command.Cache roles words c =
     let stores = stores_counted command.Cache roles words c in (
       omega (arith, stores, c.least, ap (λ t. t.least) rows.stores_of_cache),
-      omega (arith, stores, c.greatest option.Store rows.store_takes, ap (λ t. t.greatest) rows.stores_of_cache),
+      few_stores command.Cache roles words c rows.groups_of_cache,
       omega (arith, c.as_many role.Operand, c.operands_least, ap (λ t. t.operands.least) rows.names_of_cache),
       omega (arith, c.as_many role.Operand, c.operands_greatest (ap (λ t. t.takes_numbers) rows.names_of_cache), ap (λ t. t.operands.greatest) rows.names_of_cache),
       indexes_all command.Cache roles words (names 1 64 64) c rows.names_of_cache refl refl (omega arith),
     )
 kept command.ListChunks roles words c = index_first command.ListChunks roles words 0 c rows.names_of_list_chunks
 kept command.Info roles words c = (
-  omega (arith, stores_counted command.Info roles words c, c.greatest option.Store rows.store_takes, ap (λ t. t.greatest) rows.stores_of_info),
+  few_stores command.Info roles words c rows.groups_of_info,
   index_first command.Info roles words 0 c rows.names_of_info,
 )
 kept command.Verify roles words c = tt

@@ -1,18 +1,25 @@
 -- What passed of the words of each role, by their place among those of the role.
-use Rattle.std.proofs.Common.{◌≡◌, ◌<◌, ◌≤◌, ℕ, zero, suc, ◌+◌, Bool, true, false, List, [], ◌∷◌, ◌++◌, length, get_or, take, ◌==◌, if◌then◌else◌, None, refl, sym, ap, ap₂, subst, ◌∙◌, arith, inl, inr, add-one, eq-eqb, ne_eqb}
+use Rattle.std.proofs.Common.{◌≡◌, ◌<◌, ◌≤◌, ℕ, ◌+◌, Bool, true, false, List, [], ◌∷◌, ◌++◌, length, get_or, nat_lt, sum_by, ◌==◌, if◌then◌else◌, Option, Some, None, refl, sym, ap, ap₂, subst, ◌∙◌, arith, inl, inr, eq-eqb, ne_eqb}
 use Rattle.std.proofs.Math.Seq.{get_or-append_seam}
-use Rattle.std.proofs.lemmas.Bool.{cond-true, cond-false, cases_eq}
-use Rattle.std.proofs.lemmas.List.{append-nil, get_or_append_left, take_all, take_more}
+use Rattle.std.proofs.lemmas.Bool.{cond-true, cond-false, cases_eq, ltb-false, true≢false}
+use Rattle.std.proofs.lemmas.Option.{none-some}
+use Rattle.std.proofs.lemmas.List.{append-nil, get_or_append_left}
 use Rattle.std.proofs.lemmas.List.Sums.{sum_by_push}
-use Rattle.command_line.specs.Judging.{operand_refusal, refusal_of, value_refusal}
+use Rattle.command_line.specs.declared.judge.Refusal.{Refusal}
+use Rattle.command_line.specs.declared.judge.Refusal.TheVariants as refusal
+use Rattle.command_line.specs.Judging.{group_refusal, operand_refusal, refusal_of, refusal_after, stores_named, value_refusal, words_by_role}
 use Rattle.command_words.specs.declared.option_table.CommandKind.{CommandKind}
 use Rattle.command_words.specs.declared.option_table.OptionKind.{OptionKind}
 use Rattle.command_words.specs.declared.roles.Role.{Role}
 use Rattle.command_words.specs.declared.roles.Role.TheVariants as role
-use Rattle.command_words.specs.Roles.{role_number, role_of, roles_of, times_of_role, words_as, word_as}
-use Rattle.command_line.proofs.Counts.{operand_is, value_is}
+use Rattle.command_words.specs.declared.option_table.OptionKind.TheVariants as option
+use Rattle.command_words.specs.declared.usage.UsageWhy.TheVariants as why
+use Rattle.command_words.specs.Locations.{parts_of}
+use Rattle.command_words.specs.OptionTable.{takes_groups}
+use Rattle.command_words.specs.Roles.{by_role, role_number, role_of, roles_of, times_of_role, words_as, word_as}
+use Rattle.command_line.proofs.Counts.{along_all, operand_is, value_is}
 use Rattle.command_line.proofs.Following.{roles_length}
-use Rattle.command_line.proofs.Judged.{Pass, roles_more}
+use Rattle.command_line.proofs.Judged.{Pass}
 use Rattle.command_line.proofs.Lists.{words_counted}
 
 -- ---- one more word
@@ -62,34 +69,69 @@ pushed r q P roles words w e before now i lt =
 
 -- what each word that passes as one of the role has, with its place among them
 abbrev Gives : CommandKind → Role → (ℕ → List ℕ → Type 0) → Type 0
-Gives k r P = (before : List Role) (w : List ℕ) → role_number (role_of k before w) ≡ role_number r → refusal_of k before (role_of k before w) w ≡ None → P (times_of_role r before) w
-
-along : (k : CommandKind) (words : List (List ℕ)) (r : Role) (P : ℕ → List ℕ → Type 0) → Gives k r P
-    → (n : ℕ) → n ≤ length words → Pass k words n → Hold r P (roles_of k (take n words)) (take n words)
-along k words r P gives zero le pass = λ i lt. absurd (omega (arith, lt))
-along k words r P gives (suc n) le pass =
-    let w = get_or words n [] in
-    let before = roles_of k (take n words) in
-    let roles : roles_of k (take (suc n) words) ≡ before ++ role_of k before w ∷ []
-    = ap (λ i. roles_of k (take i words)) (sym (add-one n)) ∙ roles_more k words n (omega (arith, le)) in
-    let taken : take (suc n) words ≡ take n words ++ w ∷ []
-    = ap (λ i. take i words) (sym (add-one n)) ∙ take_more words n [] (omega (arith, le)) in
-    let held = along k words r P gives n (omega (arith, le)) (λ j l. pass j (omega (arith, l))) in
-    let now = pushed r (role_of k before w) P before (take n words) w (roles_length k (take n words)) held
-    (λ same. gives before w same (pass n (omega arith))) in
-    subst (λ l. Hold r P l (take (suc n) words)) (sym roles) (subst (λ l. Hold r P (before ++ role_of k before w ∷ []) l) (sym taken) now)
+Gives k r P = (before : List (List ℕ)) (w : List ℕ) → let roles = roles_of k before in role_number (role_of k roles w) ≡ role_number r → refusal_after k before w ≡ None → P (times_of_role r roles) w
 
 all_hold : (k : CommandKind) (words : List (List ℕ)) (r : Role) (P : ℕ → List ℕ → Type 0) → Gives k r P → Pass k words (length words) → Hold r P (roles_of k words) words
-all_hold k words r P gives pass =
-    let all = take_all (length words) words (omega arith) in
-    subst (λ l. Hold r P (roles_of k l) l) all (along k words r P gives (length words) (omega arith) pass)
+all_hold k words r P gives = along_all k words (λ p. Hold r P p.roles p.words) (λ i lt. absurd (omega (arith, lt)))
+    (λ before w ok held. let roles = roles_of k before in pushed r (role_of k roles w) P roles before w (roles_length k before) held (λ same. gives before w same ok))
 
 -- each operand passes as one that has so many before it
 pub operands_pass : (k : CommandKind) (words : List (List ℕ)) → Pass k words (length words) → Hold role.Operand (λ i w. operand_refusal k i w ≡ None) (roles_of k words) words
 operands_pass k words = all_hold k words role.Operand (λ i w. operand_refusal k i w ≡ None)
-    (λ before w same ok. subst (λ q. refusal_of k before q w ≡ None) (operand_is (role_of k before w) same) ok)
+    (λ before w same ok. subst (λ q. refusal_of k (words_by_role k before) q w ≡ None) (operand_is (role_of k (roles_of k before) w) same) ok)
+
+-- a word passes as a value of the option, after some number of stores
+abbrev pub PassesAs : CommandKind → OptionKind → List ℕ → Type 0
+PassesAs k o w = (n : ℕ) × (value_refusal k n o w ≡ None)
+
+passed_as : (k : CommandKind) (o : OptionKind) (before : List (List ℕ)) (w : List ℕ) → role_number (role_of k (roles_of k before) w) ≡ role_number (role.Value o) → refusal_after k before w ≡ None
+    → value_refusal k (stores_named (words_by_role k before)) o w ≡ None
+passed_as k o before w same ok = subst (λ q. refusal_of k (words_by_role k before) q w ≡ None) (value_is (role_of k (roles_of k before) w) o same) ok
 
 -- each value of an option passes as one
-pub values_pass : (k : CommandKind) (words : List (List ℕ)) (o : OptionKind) → Pass k words (length words) → Hold (role.Value o) (λ i w. value_refusal k o w ≡ None) (roles_of k words) words
-values_pass k words o = all_hold k words (role.Value o) (λ i w. value_refusal k o w ≡ None)
-    (λ before w same ok. subst (λ q. refusal_of k before q w ≡ None) (value_is (role_of k before w) o same) ok)
+pub values_pass : (k : CommandKind) (words : List (List ℕ)) (o : OptionKind) → Pass k words (length words) → Hold (role.Value o) (λ i w. PassesAs k o w) (roles_of k words) words
+values_pass k words o = all_hold k words (role.Value o) (λ i w. PassesAs k o w)
+    (λ before w same ok. (stores_named (words_by_role k before), passed_as k o before w same ok))
+
+-- ---- no more stores than may be named
+
+few_by : (n : ℕ) (parts : List (List ℕ)) (many : Bool) (rest : Option Refusal) → nat_lt 16 (n + length parts) ≡ many → (if many then Some (refusal.Why why.TooMany) else rest) ≡ None → n + length parts ≤ 16
+few_by n parts true rest is e = absurd (none-some _ (sym e))
+few_by n parts false rest is e = omega (arith, ltb-false _ _ is)
+
+few_in_groups : (k : CommandKind) (n : ℕ) (w : List ℕ) (groups : Bool) (rest : Option Refusal) → groups ≡ true → (if groups then group_refusal n (parts_of w) else rest) ≡ None → n + length (parts_of w) ≤ 16
+few_in_groups k n w true rest is e = few_by n (parts_of w) (nat_lt 16 (n + length (parts_of w))) _ refl e
+few_in_groups k n w false rest is e = absurd (true≢false (sym is))
+
+-- one more value of -s
+named_more : (q : Role) (roles : List Role) (words : List (List ℕ)) (w : List ℕ) → length roles ≡ length words
+    → stores_named (by_role (roles ++ q ∷ []) (words ++ w ∷ [])) ≡ stores_named (by_role roles words) + (if role_number q == role_number (role.Value option.Store) then length (parts_of w) else 0)
+named_more q roles words w e =
+    let r = role.Value option.Store in
+    let count = sum_by (λ v. length (parts_of v)) in
+    ap count (one_more r q roles words w e) ∙ elim (cases_eq (role_number q) (role_number r)) [
+      | inl same ↦
+          let is = eq-eqb (role_number q) (role_number r) same in
+          ap (λ l. count (words_as r roles words ++ l)) (cond-true _ _ _ is) ∙ sum_by_push (λ v. length (parts_of v)) (words_as r roles words) w
+          ∙ ap (λ n. stores_named (by_role roles words) + n) (sym (cond-true _ _ _ is))
+      | inr other ↦
+          let not = ne_eqb (role_number q) (role_number r) other in
+          ap (λ l. count (words_as r roles words ++ l)) (cond-false _ _ _ not) ∙ ap count (append-nil (words_as r roles words))
+          ∙ sym (ap (λ n. stores_named (by_role roles words) + n) (cond-false _ _ _ not) ∙ omega arith)
+    ]
+
+few_more : (k : CommandKind) (before : List (List ℕ)) (w : List ℕ) → takes_groups k ≡ true → refusal_after k before w ≡ None → stores_named (words_by_role k before) ≤ 16
+    → stores_named (by_role (roles_of k before ++ role_of k (roles_of k before) w ∷ []) (before ++ w ∷ [])) ≤ 16
+few_more k before w groups ok le =
+    let q = role_of k (roles_of k before) w in
+    let more = named_more q (roles_of k before) before w (roles_length k before) in
+    elim (cases_eq (role_number q) (role_number (role.Value option.Store))) [
+      | inl same ↦
+          let few = few_in_groups k (stores_named (words_by_role k before)) w (takes_groups k) _ groups (passed_as k option.Store before w same ok) in
+          omega (arith, more, few, cond-true {A = ℕ} _ (length (parts_of w)) 0 (eq-eqb _ _ same))
+      | inr other ↦ omega (arith, more, le, cond-false {A = ℕ} _ (length (parts_of w)) 0 (ne_eqb _ _ other))
+    ]
+
+-- a command that takes groups of stores names at most 16 of them
+pub stores_few : (k : CommandKind) (words : List (List ℕ)) → takes_groups k ≡ true → Pass k words (length words) → stores_named (words_by_role k words) ≤ 16
+stores_few k words groups = along_all k words (λ p. stores_named p ≤ 16) (omega arith) (λ before w ok le. few_more k before w groups ok le)

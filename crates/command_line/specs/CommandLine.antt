@@ -20,10 +20,11 @@ use Rattle.command_words.specs.declared.usage.UsageWhy.{UsageWhy}
 use Rattle.command_words.specs.declared.usage.UsageWhy.TheVariants as why
 use Rattle.command_words.specs.declared.usage.WordsFault.{WordsFault}
 use Rattle.command_words.specs.declared.usage.WordsFault.TheVariants as fault
-use Rattle.command_words.specs.Locations.{location_of}
+use Rattle.command_words.specs.Locations.{location_of, parts_of}
 use Rattle.command_words.specs.OptionTable.{command_named}
 use Rattle.command_words.specs.Roles.{WordsByRole, by_role, times_of_role, words_as, word_as}
-use Rattle.command_words.specs.Values.{number_in_word, workers_of, byte_count_of, sizes_of, listen_of, digest_of}
+use Rattle.command_words.specs.Values.{number_in_word, workers_of, retries_of, byte_count_of, sizes_of, listen_of}
+use Rattle.command_words.specs.Values.{digest_of}
 
 -- ---- what words that have passed say, by their roles
 
@@ -43,8 +44,16 @@ read_location (Err e) = location.Folder []
 abbrev pub store : WordsByRole → Location
 store p = read_location (location_of (value option.Store p))
 
-abbrev pub stores : WordsByRole → List Location
-stores p = map (λ w. read_location (location_of w)) (words_as (role.Value option.Store) p.roles p.words)
+-- the locations between the `|` of a word
+abbrev pub group_of : List ℕ → List Location
+group_of w = map (λ part. read_location (location_of part)) (parts_of w)
+
+abbrev pub stores : WordsByRole → List (List Location)
+stores p = map group_of (words_as (role.Value option.Store) p.roles p.words)
+
+-- no call is made again where no number is given
+abbrev pub retries : WordsByRole → ℕ
+retries p = unwrap_or (retries_of (value option.Retries p)) 0
 
 abbrev pub cache : WordsByRole → Option (List ℕ)
 cache p = if is_given option.Cache p then Some (value option.Cache p) else None
@@ -78,15 +87,15 @@ number most w = unwrap_or (number_in_word 0 most w) 0
 abbrev pub command_by_roles : CommandKind → WordsByRole → Command
 command_by_roles command.Make p = said.Make (store p) (sizes p) (workers p) (digest p) (operand 0 p) (operand 1 p)
 command_by_roles command.Extract p =
-    said.Extract (stores p) (words_as (role.Value option.Seed) p.roles p.words) (cache p) (is_given option.InPlace p)
-    (workers p) (operand 0 p) (operand 1 p)
-command_by_roles command.Cat p = said.Cat (stores p) (offset p) (size p) (operand 0 p)
+    said.Extract (stores p) (retries p) (words_as (role.Value option.Seed) p.roles p.words) (cache p)
+    (is_given option.InPlace p) (workers p) (operand 0 p) (operand 1 p)
+command_by_roles command.Cat p = said.Cat (stores p) (retries p) (offset p) (size p) (operand 0 p)
 command_by_roles command.VerifyIndex p = said.VerifyIndex (workers p) (operand 0 p) (operand 1 p)
 command_by_roles command.Chop p = said.Chop (store p) (workers p) (operand 0 p) (operand 1 p)
 command_by_roles command.Cache p =
-    said.Cache (stores p) (value option.Cache p) (workers p) (words_as role.Operand p.roles p.words)
+    said.Cache (stores p) (retries p) (value option.Cache p) (workers p) (words_as role.Operand p.roles p.words)
 command_by_roles command.ListChunks p = said.ListChunks (operand 0 p)
-command_by_roles command.Info p = said.Info (stores p) (operand 0 p)
+command_by_roles command.Info p = said.Info (stores p) (retries p) (operand 0 p)
 command_by_roles command.Verify p =
     said.Verify (value option.Store p) (is_given option.Repair p) (workers p) (digest p)
 command_by_roles command.Prune p = said.Prune (value option.Store p) (words_as role.Operand p.roles p.words)

@@ -1,7 +1,9 @@
 -- How the words of a command are judged. The words are those after the command; places count the command too.
-use Rattle.std.specs.Prelude.{◌≡◌, ℕ, ◌+◌, ◌==◌, ◌||◌, Bool, not, List, [], length, find, take, slice_index_or}
-use Rattle.std.specs.Prelude.{Option, Some, None, is_some, option_map, Result, Ok, Err, if◌then◌else◌, nat_lt}
-use Rattle.std.specs.List.{range_with_len}
+use Rattle.std.specs.Prelude.{◌≡◌, ℕ, ◌+◌, ◌==◌, ◌||◌, Bool, false, not, List, [], ◌∷◌, length, sum_by, find, take}
+use Rattle.std.specs.Prelude.{slice_index_or, Option, Some, None, is_some, option_map, Result, Ok, Err}
+use Rattle.std.specs.Prelude.{if◌then◌else◌, nat_lt}
+use Rattle.std.specs.List.{list_any, range_with_len}
+use Rattle.std.specs.Option.{option_or}
 use Rattle.command_line.specs.declared.judge.Refusal.{Refusal}
 use Rattle.command_line.specs.declared.judge.Refusal.TheVariants as refusal
 use Rattle.command_words.specs.declared.command.Location.{Location}
@@ -19,10 +21,10 @@ use Rattle.command_words.specs.declared.usage.UsageWhy.{UsageWhy}
 use Rattle.command_words.specs.declared.usage.UsageWhy.TheVariants as why
 use Rattle.command_words.specs.declared.usage.WordsFault.{WordsFault}
 use Rattle.command_words.specs.declared.usage.WordsFault.TheVariants as fault
-use Rattle.command_words.specs.Locations.{location_of, is_index_url, index_place_of}
-use Rattle.command_words.specs.OptionTable.{takes_of, times_of}
-use Rattle.command_words.specs.Roles.{awaited, role_of, roles_of, times_of_role}
-use Rattle.command_words.specs.Values.{number_in_word, workers_of, byte_count_of, sizes_of, listen_of}
+use Rattle.command_words.specs.Locations.{location_of, parts_of, is_index_url, index_place_of}
+use Rattle.command_words.specs.OptionTable.{takes_of, takes_groups, times_of}
+use Rattle.command_words.specs.Roles.{WordsByRole, by_role, awaited, role_of, roles_of, times_of_role, words_as}
+use Rattle.command_words.specs.Values.{number_in_word, workers_of, retries_of, byte_count_of, sizes_of, listen_of}
 use Rattle.command_words.specs.Values.{is_seed, digest_of}
 
 -- ---- one word
@@ -40,23 +42,45 @@ store_refusal needs_folder (Ok (location.Http host port prefix)) = unless (not n
 store_refusal needs_folder (Err no.Bad) = Some (refusal.Why why.BadLocation)
 store_refusal needs_folder (Err no.Memory) = Some refusal.Memory
 
+-- how many stores the words name
+abbrev pub stores_named : WordsByRole → ℕ
+stores_named p = sum_by (λ w. length (parts_of w)) (words_as (role.Value option.Store) p.roles p.words)
+
+-- the first of these that is no location decides
+abbrev pub parts_refusal : List (List ℕ) → Option Refusal
+parts_refusal [] = None
+parts_refusal (w ∷ parts) = option_or (store_refusal false (location_of w)) (parts_refusal parts)
+
+-- a group of locations, where n stores are named before it
+abbrev pub group_refusal : ℕ → List (List ℕ) → Option Refusal
+group_refusal n parts =
+    if nat_lt 16 (n + length parts) then Some (refusal.Why why.TooMany)
+    else (if list_any is_empty parts then Some (refusal.Why why.Empty) else parts_refusal parts)
+
+-- a location, or a group of them
+abbrev pub location_refusal : CommandKind → ℕ → List ℕ → Option Refusal
+location_refusal k n w =
+    if takes_groups k then group_refusal n (parts_of w)
+    else (if is_empty w then Some (refusal.Why why.Empty)
+    else store_refusal (takes_of k).needs_folder (location_of w))
+
 -- a name that may not be empty, and is to pass the test
 abbrev pub name_refusal : Bool → Bool → UsageWhy → Option Refusal
 name_refusal empty right y = if empty then Some (refusal.Why why.Empty) else unless right y
 
--- the value of an option
-abbrev pub value_refusal : CommandKind → OptionKind → List ℕ → Option Refusal
-value_refusal k option.Store w =
-    if is_empty w then Some (refusal.Why why.Empty) else store_refusal (takes_of k).needs_folder (location_of w)
-value_refusal k option.ChunkSize w = unless (is_some (sizes_of w)) why.BadSizes
-value_refusal k option.Concurrency w = unless (is_some (workers_of w)) why.BadNumber
-value_refusal k option.Cache w = unless (not (is_empty w)) why.Empty
-value_refusal k option.Seed w = name_refusal (is_empty w) (is_seed w) why.BadSeed
-value_refusal k option.Listen w = unless (is_some (listen_of w)) why.BadListen
-value_refusal k option.Digest w = unless (is_some (digest_of w)) why.BadDigest
-value_refusal k option.Offset w = unless (is_some (byte_count_of w)) why.BadNumber
-value_refusal k option.Length w = unless (is_some (byte_count_of w)) why.BadNumber
-value_refusal k without w = None
+-- the value of an option, where n stores are named before it
+abbrev pub value_refusal : CommandKind → ℕ → OptionKind → List ℕ → Option Refusal
+value_refusal k n option.Store w = location_refusal k n w
+value_refusal k n option.ChunkSize w = unless (is_some (sizes_of w)) why.BadSizes
+value_refusal k n option.Concurrency w = unless (is_some (workers_of w)) why.BadNumber
+value_refusal k n option.Cache w = unless (not (is_empty w)) why.Empty
+value_refusal k n option.Seed w = name_refusal (is_empty w) (is_seed w) why.BadSeed
+value_refusal k n option.Listen w = unless (is_some (listen_of w)) why.BadListen
+value_refusal k n option.Digest w = unless (is_some (digest_of w)) why.BadDigest
+value_refusal k n option.Offset w = unless (is_some (byte_count_of w)) why.BadNumber
+value_refusal k n option.Length w = unless (is_some (byte_count_of w)) why.BadNumber
+value_refusal k n option.Retries w = unless (is_some (retries_of w)) why.BadNumber
+value_refusal k n without w = None
 
 -- a place of an index that was read, or why not
 abbrev pub place_refusal : Result IndexPlace NoLocation → Option Refusal
@@ -93,14 +117,14 @@ abbrev pub operand_refusal : CommandKind → ℕ → List ℕ → Option Refusal
 operand_refusal k n w =
     if (takes_of k).takes_numbers then demo_operand_refusal n w else name_operand_refusal (takes_of k) n w
 
--- a word of a role, after words of the roles before it
-abbrev pub refusal_of : CommandKind → List Role → Role → List ℕ → Option Refusal
+-- a word of a role, after the words before it
+abbrev pub refusal_of : CommandKind → WordsByRole → Role → List ℕ → Option Refusal
 refusal_of k before role.Dashes w = None
 refusal_of k before role.Unknown w = Some (refusal.Why why.UnknownOption)
 refusal_of k before (role.Given o) w =
-    unless (nat_lt (times_of_role (role.Given o) before) (times_of k o).greatest) why.TooMany
-refusal_of k before (role.Value o) w = value_refusal k o w
-refusal_of k before role.Operand w = operand_refusal k (times_of_role role.Operand before) w
+    unless (nat_lt (times_of_role (role.Given o) before.roles) (times_of k o).greatest) why.TooMany
+refusal_of k before (role.Value o) w = value_refusal k (stores_named before) o w
+refusal_of k before role.Operand w = operand_refusal k (times_of_role role.Operand before.roles) w
 
 -- ---- all words
 
@@ -108,9 +132,13 @@ abbrev pub fault_at : ℕ → Refusal → WordsFault
 fault_at place (refusal.Why y) = fault.Usage place y
 fault_at place refusal.Memory = fault.Memory
 
+-- the words, each with its role
+abbrev pub words_by_role : CommandKind → List (List ℕ) → WordsByRole
+words_by_role k words = by_role (roles_of k words) words
+
 -- why a word is refused after the words before it, if it is
 abbrev pub refusal_after : CommandKind → List (List ℕ) → List ℕ → Option Refusal
-refusal_after k before w = refusal_of k (roles_of k before) (role_of k (roles_of k before) w) w
+refusal_after k before w = refusal_of k (words_by_role k before) (role_of k (roles_of k before) w) w
 
 -- why the word at i is refused, if it is: what comes after it doesn't matter
 abbrev pub refusal_at : CommandKind → List (List ℕ) → ℕ → Option Refusal

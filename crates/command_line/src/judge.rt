@@ -3,19 +3,20 @@
 
 ghost use Rattle.std.specs.Prelude.{◌≡◌, ◌<◌, ◌+◌, ◌^◌, ℕ, List, [], length, map, string_bytes, Result, Ok, Err, Some};
 ghost use Rattle.std.specs.Prelude.{None, IfOk};
-ghost use Rattle.command_line.specs.Judging.{RefusesWords, AnswersBy, number_refusal, unless, is_empty, store_refusal};
+ghost use Rattle.command_line.specs.Judging.{RefusesWords, AnswersBy, number_refusal, unless, is_empty, stores_named};
 ghost use Rattle.command_line.specs.Judging.{name_refusal, value_refusal, index_refusal, named_refusal};
 ghost use Rattle.command_line.specs.Judging.{name_operand_refusal, demo_operand_refusal, place_refusal};
 ghost use Rattle.command_line.specs.Judging.{operand_refusal, refusal_of, fault_at, judged, lacks, missing_words};
-ghost use Rattle.command_words.specs.Locations.{location_of, index_place_of};
+ghost use Rattle.command_words.specs.Locations.{index_place_of};
 ghost use Rattle.command_words.specs.OptionTable.{takes_of, times_of};
 
-use command_words::command::Location;
-use command_words::location::{NoLocation, is_index_url, read_index_place, read_location};
+use crate::checked_words::CheckedWords;
+use crate::locations::judge_store;
+use command_words::location::{NoLocation, is_index_url, read_index_place};
 use command_words::option_table::{CommandKind, OptionKind, Takes};
 use command_words::roles::{Role, awaited, count_of, role_of, word};
 use command_words::usage::{UsageWhy, WordsFault};
-use command_words::values::{byte_count, digest, is_seed, listen, number, sizes, workers};
+use command_words::values::{byte_count, digest, is_seed, listen, number, retries, sizes, workers};
 use std::alloc::Global;
 
 /// Why a word is refused.
@@ -25,8 +26,8 @@ pub enum Refusal {
     Memory,
 }
 
-// Refuses unless it is right.
-fn unless(right: bool, why: UsageWhy) -> Result<(), Refusal>
+/// Refuses unless it is right.
+pub fn unless(right: bool, why: UsageWhy) -> Result<(), Refusal>
     ensures { RefusesWords (unless right why) result }
 {
     if right {
@@ -46,40 +47,19 @@ fn judge_name(empty: bool, right: bool, why: UsageWhy) -> Result<(), Refusal>
     unless(right, why)
 }
 
-// Judges a location.
-fn judge_location(alloc: Global, needs_folder: bool, word: &str) -> Result<(), Refusal>
-    ensures { RefusesWords (store_refusal needs_folder (location_of word.now)) result }
-{
-    match read_location(alloc, word) {
-        Ok(Location::Folder(_)) => Ok(()),
-        Ok(Location::Http { .. }) => unless(!needs_folder, UsageWhy::NeedsFolder),
-        Err(NoLocation::Bad) => Err(Refusal::Why(UsageWhy::BadLocation)),
-        Err(NoLocation::Memory) => Err(Refusal::Memory),
-    }
-}
-
-// Judges the value of -s.
-fn judge_store(alloc: Global, kind: CommandKind, word: &str) -> Result<(), Refusal>
-    ensures { RefusesWords (value_refusal kind OptionKind.Store word.now) result }
-{
-    if word.is_empty() {
-        return Err(Refusal::Why(UsageWhy::Empty));
-    }
-    judge_location(alloc, kind.takes().needs_folder, word)
-}
-
-// Judges the value of an option.
+// Judges the value of an option, after these words.
 fn judge_value(
     alloc: Global,
     kind: CommandKind,
+    before: &CheckedWords<'_>,
     option: OptionKind,
     word: &str,
 ) -> Result<(), Refusal>
-    ensures { RefusesWords (value_refusal kind option word.now) result }
+    ensures { RefusesWords (value_refusal kind (stores_named before.now) option word.now) result }
 {
     let bytes = word.as_bytes();
     match option {
-        OptionKind::Store => judge_store(alloc, kind, word),
+        OptionKind::Store => judge_store(alloc, kind, before, word),
         OptionKind::ChunkSize => unless(sizes(bytes).is_some(), UsageWhy::BadSizes),
         OptionKind::Concurrency => unless(workers(bytes).is_some(), UsageWhy::BadNumber),
         OptionKind::Cache => unless(!word.is_empty(), UsageWhy::Empty),
@@ -89,6 +69,7 @@ fn judge_value(
         OptionKind::Offset | OptionKind::Length => {
             unless(byte_count(word).is_some(), UsageWhy::BadNumber)
         }
+        OptionKind::Retries => unless(retries(bytes).is_some(), UsageWhy::BadNumber),
         OptionKind::InPlace | OptionKind::Repair | OptionKind::Yes | OptionKind::Writable => Ok(()),
     }
 }
@@ -176,11 +157,11 @@ fn judge_operand(alloc: Global, kind: CommandKind, before: usize, word: &str) ->
     }
 }
 
-// Judges a word of a role, after words of these roles.
+// Judges a word of a role, after these words.
 fn judge_word(
     alloc: Global,
     kind: CommandKind,
-    before: &[Role],
+    before: &CheckedWords<'_>,
     role: Role,
     word: &str,
 ) -> Result<(), Refusal>
@@ -189,12 +170,12 @@ fn judge_word(
     match role {
         Role::Dashes => Ok(()),
         Role::Unknown => Err(Refusal::Why(UsageWhy::UnknownOption)),
-        Role::Operand => judge_operand(alloc, kind, count_of(Role::Operand, before), word),
+        Role::Operand => judge_operand(alloc, kind, before.count_of(Role::Operand), word),
         Role::Given(option) => {
-            let right = count_of(Role::Given(option), before) < kind.times_of(option).greatest;
+            let right = before.count_of(Role::Given(option)) < kind.times_of(option).greatest;
             unless(right, UsageWhy::TooMany)
         }
-        Role::Value(option) => judge_value(alloc, kind, option, word),
+        Role::Value(option) => judge_value(alloc, kind, before, option, word),
     }
 }
 
@@ -217,9 +198,9 @@ pub fn judged(alloc: Global, kind: CommandKind, words: &[String]) -> Result<Vec<
     let mut roles = Vec::new(alloc);
     for i in 0..words.len() {
         let word = word(words, i);
-        let before = roles.as_slice();
-        let role = role_of(kind, before, word);
-        if let Err(refusal) = judge_word(alloc, kind, before, role, word) {
+        let role = role_of(kind, roles.as_slice(), word);
+        let before = CheckedWords::of(roles.as_slice(), &words[..i]);
+        if let Err(refusal) = judge_word(alloc, kind, &before, role, word) {
             return Err(fault_at(i as u64 + 1, refusal));
         }
         if roles.push(role).is_err() {

@@ -5,6 +5,7 @@ mod checked_words;
 mod command_line;
 mod judge;
 pub mod laws;
+mod locations;
 mod word_values;
 
 pub use command_line::read_words;

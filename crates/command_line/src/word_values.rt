@@ -1,6 +1,6 @@
 //! The values of checked words, by their roles.
 
-ghost use Rattle.std.specs.Prelude.{◌≡◌, IfOk};
+ghost use Rattle.std.specs.Prelude.{◌≡◌, map, IfOk};
 ghost use Rattle.command_line.specs.CommandLine as line;
 ghost use Rattle.command_line.specs.CommandLine.{Says};
 ghost use Rattle.command_words.specs.Locations.{location_of};
@@ -8,8 +8,8 @@ ghost use Rattle.command_words.specs.Locations.{location_of};
 use crate::checked_words::CheckedWords;
 use crate::judge::GREATEST_DEMO;
 use chunk_store::id::DigestKind;
-use command_words::command::{Command, Location, Locations};
-use command_words::location::read_location;
+use command_words::command::{Command, Groups, Location, Locations};
+use command_words::location::{parts, read_location};
 use command_words::option_table::{CommandKind, OptionKind};
 use command_words::roles::Role;
 use command_words::values;
@@ -30,6 +30,26 @@ fn checked_location(alloc: Global, word: &str) -> Result<Location, AllocError>
     ensures { IfOk result (λ l. l ≡ line.read_location (location_of word.now)) }
 {
     read_location(alloc, word).map_err(|_| AllocError)
+}
+
+// The locations that these words name, in order.
+fn group_among(alloc: Global, parts: &[&str]) -> Result<Locations, AllocError>
+    ensures { IfOk result (λ l.
+        l ≡ map (λ w. line.read_location (location_of w)) (map (λ p. p.now) parts.now)) }
+{
+    let mut locations = Vec::new(alloc);
+    for part in parts {
+        locations.push(checked_location(alloc, part)?)?;
+    }
+    Ok(Locations::of(locations))
+}
+
+// The locations of a checked word, in order.
+fn checked_group(alloc: Global, word: &str) -> Result<Locations, AllocError>
+    ensures { IfOk result (λ l. l ≡ line.group_of word.now) }
+{
+    let parts = parts(alloc, word)?;
+    group_among(alloc, parts.as_slice())
 }
 
 impl<'a> CheckedWords<'a> {
@@ -76,16 +96,24 @@ impl<'a> CheckedWords<'a> {
         checked_location(alloc, self.value(OptionKind::Store))
     }
 
-    // The locations, in order.
-    fn stores(&self, alloc: Global) -> Result<Locations, AllocError>
-        ensures { IfOk result (λ l. l ≡ line.stores self.now) }
+    // The groups of locations, in order.
+    fn stores(&self, alloc: Global) -> Result<Groups, AllocError>
+        ensures { IfOk result (λ g. g ≡ line.stores self.now) }
     {
         let role = Role::Value(OptionKind::Store);
-        let mut locations = Vec::new(alloc);
+        let mut groups = Vec::new(alloc);
         for i in 0..self.count_of(role) {
-            locations.push(checked_location(alloc, self.word_as(role, i))?)?;
+            groups.push(checked_group(alloc, self.word_as(role, i))?)?;
         }
-        Ok(Locations::of(locations))
+        Ok(Groups::of(groups))
+    }
+
+    // How often a call that failed is made again.
+    fn retries(&self) -> u32
+        ensures { result ≡ line.retries self.now }
+    {
+        let word = self.value(OptionKind::Retries);
+        values::retries(word.as_bytes()).unwrap_or(0)
     }
 
     // The cache, where one is given.
@@ -159,6 +187,7 @@ impl<'a> CheckedWords<'a> {
     {
         Ok(Command::Extract {
             stores: self.stores(alloc)?,
+            retries: self.retries(),
             seeds: self.names_as(alloc, Role::Value(OptionKind::Seed))?,
             cache: self.cache(alloc)?,
             in_place: self.is_given(OptionKind::InPlace),
@@ -173,6 +202,7 @@ impl<'a> CheckedWords<'a> {
     {
         Ok(Command::Cat {
             stores: self.stores(alloc)?,
+            retries: self.retries(),
             offset: self.offset(),
             length: self.size(),
             index: self.operand(alloc, 0)?,
@@ -195,6 +225,7 @@ impl<'a> CheckedWords<'a> {
     {
         Ok(Command::Cache {
             stores: self.stores(alloc)?,
+            retries: self.retries(),
             cache: self.named(alloc, OptionKind::Cache)?,
             workers: self.workers(),
             indexes: self.names_as(alloc, Role::Operand)?,
@@ -258,6 +289,7 @@ impl<'a> CheckedWords<'a> {
             }),
             CommandKind::Info => Ok(Command::Info {
                 stores: self.stores(alloc)?,
+                retries: self.retries(),
                 index: self.operand(alloc, 0)?,
             }),
             CommandKind::Verify => Ok(Command::Verify {

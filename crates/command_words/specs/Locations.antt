@@ -1,7 +1,7 @@
 -- Locations of chunks, and places of indexes. A word is its bytes.
 use Rattle.std.specs.Prelude.{ℕ, ◌-◌, ◌==◌, ◌&&◌, ◌||◌, Bool, true, false, not, List, [], ◌∷◌, length, take, codes}
 use Rattle.std.specs.Prelude.{None, is_some, option_map, unwrap_or, Result, Ok, Err, if◌then◌else◌, nat_eq, ◌≡◌, ◌≢◌}
-use Rattle.std.specs.List.{starts_with, ends_with, list_any}
+use Rattle.std.specs.List.{starts_with, ends_with, list_any, slice_split}
 use Rattle.std.specs.Str.{bytes_eq}
 use Rattle.command_words.specs.declared.command.Location.{Location}
 use Rattle.command_words.specs.declared.command.Location.TheVariants as location
@@ -60,6 +60,10 @@ location_of w =
     if list_any (λ c. c == 124) w then Err no.Bad
     else (if contains_scheme w then url_location (parse_url None w)
     else Ok (location.Folder w))
+
+-- the words of a group of locations: what stands between the `|`
+abbrev pub parts_of : List ℕ → List (List ℕ)
+parts_of w = slice_split (λ c. c == 124) w
 
 -- an index of this name is asked for over HTTP, and is no file
 abbrev pub is_index_url : List ℕ → Bool

@@ -33,6 +33,7 @@ option_rows =
     ∷ (option.Digest, codes "--digest", codes "--digest", true)
     ∷ (option.Offset, codes "-o", codes "--offset", true)
     ∷ (option.Length, codes "-l", codes "--length", true)
+    ∷ (option.Retries, codes "-e", codes "--error-retry", true)
     ∷ []
 
 -- `least` to `greatest` times
@@ -71,16 +72,18 @@ options_of command.Make =
     (option.Store, once) ∷ (option.ChunkSize, at_most_once) ∷ (option.Concurrency, at_most_once)
     ∷ (option.Digest, at_most_once) ∷ []
 options_of command.Extract =
-    (option.Store, times 1 16) ∷ (option.Seed, times 0 64) ∷ (option.Cache, at_most_once)
-    ∷ (option.InPlace, at_most_once) ∷ (option.Concurrency, at_most_once) ∷ []
+    (option.Store, times 1 16) ∷ (option.Retries, at_most_once) ∷ (option.Seed, times 0 64)
+    ∷ (option.Cache, at_most_once) ∷ (option.InPlace, at_most_once) ∷ (option.Concurrency, at_most_once) ∷ []
 options_of command.Cat =
-    (option.Store, times 1 16) ∷ (option.Offset, at_most_once) ∷ (option.Length, at_most_once) ∷ []
+    (option.Store, times 1 16) ∷ (option.Retries, at_most_once) ∷ (option.Offset, at_most_once)
+    ∷ (option.Length, at_most_once) ∷ []
 options_of command.VerifyIndex = (option.Concurrency, at_most_once) ∷ []
 options_of command.Chop = (option.Store, once) ∷ (option.Concurrency, at_most_once) ∷ []
 options_of command.Cache =
-    (option.Store, times 1 16) ∷ (option.Cache, once) ∷ (option.Concurrency, at_most_once) ∷ []
+    (option.Store, times 1 16) ∷ (option.Retries, at_most_once) ∷ (option.Cache, once)
+    ∷ (option.Concurrency, at_most_once) ∷ []
 options_of command.ListChunks = []
-options_of command.Info = (option.Store, times 0 16) ∷ []
+options_of command.Info = (option.Store, times 0 16) ∷ (option.Retries, at_most_once) ∷ []
 options_of command.Verify =
     (option.Store, once) ∷ (option.Repair, at_most_once) ∷ (option.Concurrency, at_most_once)
     ∷ (option.Digest, at_most_once) ∷ []
@@ -162,6 +165,10 @@ short_named k w = first_row (λ row. bytes_eq w row.1 && takes_option k row.0) (
 -- the first that the command takes and that is spelled so in words
 unfoldable pub long_named : CommandKind → List ℕ → Option OptionKind
 long_named k w = first_row (λ row. bytes_eq w row.2 && takes_option k row.0) (λ row. row.0) option_rows
+
+-- the command takes stores in groups, and calls that fail are made again
+abbrev pub takes_groups : CommandKind → Bool
+takes_groups k = takes_option k option.Retries
 
 -- the option of the command that is spelled so
 abbrev pub option_named : CommandKind → List ℕ → Option OptionKind

@@ -35,6 +35,10 @@ number_in_word least most w = at_least least (number_up_to most w)
 abbrev pub workers_of : List ℕ → Option ℕ
 workers_of w = number_in_word 1 32 w
 
+-- how often a call that failed is made again, by -e
+abbrev pub retries_of : List ℕ → Option ℕ
+retries_of w = number_in_word 0 16 w
+
 -- a number of bytes of an image, by -o and -l
 abbrev pub byte_count_of : List ℕ → Option ℕ
 byte_count_of w = number_in_word 0 18446744073709551615 w

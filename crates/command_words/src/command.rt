@@ -50,6 +50,43 @@ impl Locations {
     }
 }
 
+/// Groups of locations, which contracts see as a list of lists. The stores of a group are meant to hold
+/// the same chunks.
+#[derive(Debug, Drop)]
+pub struct Groups {
+    list: Vec<Locations>,
+}
+
+impl Model for Groups {
+    ghost use Rattle.std.specs.Prelude.{List};
+    ghost use Rattle.command_words.specs.declared.command.Location.{Location};
+
+    ghost Value = { List (List Location) };
+
+    ghost view = { λ g. g.list.items };
+}
+
+impl Groups {
+    pub fn of(list: Vec<Locations>) -> Groups
+        ensures { result ≡ list.items }
+    {
+        Groups { list }
+    }
+
+    pub fn into_vec(self) -> Vec<Locations>
+        ensures { result.items ≡ self }
+    {
+        let Groups { list } = self;
+        list
+    }
+
+    pub fn as_slice(&self) -> &[Locations]
+        ensures { result.now ≡ self.now }
+    {
+        self.list.as_slice()
+    }
+}
+
 /// Names in order, which contracts see as a list.
 #[derive(Debug, Drop)]
 pub struct Names {
@@ -87,7 +124,7 @@ impl Names {
 
 /// What the words say. `sizes` are the least, the average and the greatest chunk size in bytes, not
 /// yet judged. `offset` and `length` are bytes of the image; where no length is given all that
-/// follows is meant.
+/// follows is meant. `retries` is how often a call on a store that failed is made again.
 #[derive(Debug, Drop)]
 pub enum Command {
     Make {
@@ -99,7 +136,8 @@ pub enum Command {
         image: Name,
     },
     Extract {
-        stores: Locations,
+        stores: Groups,
+        retries: u32,
         seeds: Names,
         cache: Option<Name>,
         in_place: bool,
@@ -108,7 +146,8 @@ pub enum Command {
         target: Name,
     },
     Cat {
-        stores: Locations,
+        stores: Groups,
+        retries: u32,
         offset: u64,
         length: Option<u64>,
         index: Name,
@@ -125,7 +164,8 @@ pub enum Command {
         image: Name,
     },
     Cache {
-        stores: Locations,
+        stores: Groups,
+        retries: u32,
         cache: Name,
         workers: u32,
         indexes: Names,
@@ -134,7 +174,8 @@ pub enum Command {
         index: Name,
     },
     Info {
-        stores: Locations,
+        stores: Groups,
+        retries: u32,
         index: Name,
     },
     Verify {

@@ -8,7 +8,7 @@ ghost use Rattle.url.specs.Parser.{parse_url};
 ghost use Rattle.command_words.specs.Locations.{contains_scheme, is_out_of_room, is_plain_http, without_last_slash};
 ghost use Rattle.command_words.specs.Locations.{no_url, server_of, url_location, location_of, Locates, host_of};
 ghost use Rattle.command_words.specs.Locations.{port_of, is_index_url, names_an_index, index_server_of, index_url};
-ghost use Rattle.command_words.specs.Locations.{index_place_of};
+ghost use Rattle.command_words.specs.Locations.{index_place_of, parts_of};
 
 use crate::command::Location;
 use dsy_base::name::Name;
@@ -155,6 +155,21 @@ pub fn read_location(alloc: Global, word: &str) -> Result<Location, NoLocation>
     }
     let name = Name::of(alloc, word).map_err(|_| NoLocation::Memory)?;
     Ok(Location::Folder(name))
+}
+
+/// The words of a group of locations: what stands between the `|`.
+pub fn parts(alloc: Global, word: &str) -> Result<Vec<&str>, AllocError>
+    ensures { IfOk result (λ v. map (λ p. p.now) v.items ≡ parts_of word.now) }
+{
+    word.split('|').collect(alloc)
+}
+
+/// How many words the group has.
+#[tactic(auto, using(crate::proofs::Parts::parts_counted))]
+pub fn count_parts(word: &str) -> usize
+    ensures { result ≡ length (parts_of word.now) }
+{
+    word.as_bytes().iter().filter(|b| **b == b'|').count() + 1
 }
 
 /// Whether an index of this name is asked for over HTTP, and is no file.

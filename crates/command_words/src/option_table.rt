@@ -8,7 +8,7 @@ ghost use Rattle.std.specs.Str.{bytes_eq};
 ghost use Rattle.command_words.specs.OptionTable.{first_row, times, names, same_option, same_command, option_number};
 ghost use Rattle.command_words.specs.OptionTable.{option_rows, command_rows, takes_value, takes_option, short_named};
 ghost use Rattle.command_words.specs.OptionTable.{long_named, option_named, command_named, times_among, times_of};
-ghost use Rattle.command_words.specs.OptionTable.{takes_of};
+ghost use Rattle.command_words.specs.OptionTable.{takes_of, takes_groups};
 
 /// An option of a command.
 #[derive(Clone, Copy, Debug, PartialEq, Eq, Drop)]
@@ -26,6 +26,7 @@ pub enum OptionKind {
     Digest,
     Offset,
     Length,
+    Retries,
 }
 
 /// A command.
@@ -109,7 +110,7 @@ const NOTHING: Takes = Takes {
 
 /// The options.
 #[rattlefmt::skip]
-static OPTIONS: [OptionRow; 13] = [
+static OPTIONS: [OptionRow; 14] = [
     (OptionKind::Store, "-s", "--store", true),
     (OptionKind::ChunkSize, "-m", "--chunk-size", true),
     (OptionKind::Concurrency, "-n", "--concurrency", true),
@@ -123,6 +124,7 @@ static OPTIONS: [OptionRow; 13] = [
     (OptionKind::Digest, "--digest", "--digest", true),
     (OptionKind::Offset, "-o", "--offset", true),
     (OptionKind::Length, "-l", "--length", true),
+    (OptionKind::Retries, "-e", "--error-retry", true),
 ];
 
 /// The commands.
@@ -133,13 +135,13 @@ static COMMANDS: [CommandRow; 13] = [
             (OptionKind::Digest, AT_MOST_ONCE)],
         Takes { operands: TWICE, indexes: 1, writes_index: true, ..NOTHING }),
     (CommandKind::Extract, "extract",
-        &[(OptionKind::Store, Times { least: 1, greatest: 16 }), (OptionKind::Seed, Times { least: 0, greatest: 64 }),
-            (OptionKind::Cache, AT_MOST_ONCE), (OptionKind::InPlace, AT_MOST_ONCE),
-            (OptionKind::Concurrency, AT_MOST_ONCE)],
+        &[(OptionKind::Store, Times { least: 1, greatest: 16 }), (OptionKind::Retries, AT_MOST_ONCE),
+            (OptionKind::Seed, Times { least: 0, greatest: 64 }), (OptionKind::Cache, AT_MOST_ONCE),
+            (OptionKind::InPlace, AT_MOST_ONCE), (OptionKind::Concurrency, AT_MOST_ONCE)],
         Takes { operands: TWICE, indexes: 1, ..NOTHING }),
     (CommandKind::Cat, "cat",
-        &[(OptionKind::Store, Times { least: 1, greatest: 16 }), (OptionKind::Offset, AT_MOST_ONCE),
-            (OptionKind::Length, AT_MOST_ONCE)],
+        &[(OptionKind::Store, Times { least: 1, greatest: 16 }), (OptionKind::Retries, AT_MOST_ONCE),
+            (OptionKind::Offset, AT_MOST_ONCE), (OptionKind::Length, AT_MOST_ONCE)],
         Takes { operands: ONCE, indexes: 1, ..NOTHING }),
     (CommandKind::VerifyIndex, "verify-index",
         &[(OptionKind::Concurrency, AT_MOST_ONCE)],
@@ -148,14 +150,14 @@ static COMMANDS: [CommandRow; 13] = [
         &[(OptionKind::Store, ONCE), (OptionKind::Concurrency, AT_MOST_ONCE)],
         Takes { operands: TWICE, indexes: 1, ..NOTHING }),
     (CommandKind::Cache, "cache",
-        &[(OptionKind::Store, Times { least: 1, greatest: 16 }), (OptionKind::Cache, ONCE),
-            (OptionKind::Concurrency, AT_MOST_ONCE)],
+        &[(OptionKind::Store, Times { least: 1, greatest: 16 }), (OptionKind::Retries, AT_MOST_ONCE),
+            (OptionKind::Cache, ONCE), (OptionKind::Concurrency, AT_MOST_ONCE)],
         Takes { operands: Times { least: 1, greatest: 64 }, indexes: 64, ..NOTHING }),
     (CommandKind::ListChunks, "list-chunks",
         &[],
         Takes { operands: ONCE, indexes: 1, ..NOTHING }),
     (CommandKind::Info, "info",
-        &[(OptionKind::Store, Times { least: 0, greatest: 16 })],
+        &[(OptionKind::Store, Times { least: 0, greatest: 16 }), (OptionKind::Retries, AT_MOST_ONCE)],
         Takes { operands: ONCE, indexes: 1, ..NOTHING }),
     (CommandKind::Verify, "verify",
         &[(OptionKind::Store, ONCE), (OptionKind::Repair, AT_MOST_ONCE), (OptionKind::Concurrency, AT_MOST_ONCE),
@@ -258,7 +260,7 @@ impl OptionKind {
     /// A number of its own, from 0, by which options are told apart.
     pub fn number(self) -> u8
         ensures value { result ≡ option_number self }
-        ensures size { result < 13 }
+        ensures size { result < 14 }
     {
         self as u8
     }
@@ -284,6 +286,13 @@ impl CommandKind {
         ensures { result ≡ takes_option self option }
     {
         self.times_of(option).greatest > 0
+    }
+
+    /// Whether it takes stores in groups, and makes calls that fail again.
+    pub fn takes_groups(self) -> bool
+        ensures { result ≡ takes_groups self }
+    {
+        self.takes_option(OptionKind::Retries)
     }
 
     /// What it takes beside its options.

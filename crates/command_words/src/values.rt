@@ -4,7 +4,7 @@ ghost use Rattle.std.specs.Prelude.{◌≡◌, ◌<◌, ◌≤◌, ◌^◌, ◌�
 ghost use Rattle.std.specs.Prelude.{◌==◌};
 ghost use Rattle.std.specs.Path.{rfind_below};
 ghost use Rattle.std.specs.Str.{IsCharBoundary};
-ghost use Rattle.command_words.specs.Values.{with_digit, with_digits, number_up_to, number_in_word, workers_of};
+ghost use Rattle.command_words.specs.Values.{with_digit, with_digits, number_up_to, number_in_word, workers_of, retries_of};
 ghost use Rattle.command_words.specs.Values.{split_at, byte_count_of};
 ghost use Rattle.command_words.specs.Values.{kib_of, sizes_of, listen_of, ends_in_caibx, is_seed, digest_of};
 
@@ -73,6 +73,14 @@ pub fn workers(word: &[u8]) -> Option<u32>
     ensures { result ≡ workers_of word.now }
 {
     let n = number(1, 32, word)?;
+    Some(n as u32)
+}
+
+/// How often a call that failed is made again.
+pub fn retries(word: &[u8]) -> Option<u32>
+    ensures { result ≡ retries_of word.now }
+{
+    let n = number(0, 16, word)?;
     Some(n as u32)
 }
 
