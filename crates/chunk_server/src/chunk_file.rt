@@ -1,6 +1,7 @@
 //! A chunk's file as it was read, and the reply to the request that asks for it. Sizes are in bytes.
 
-ghost use Rattle.std.specs.Prelude.{◌≡◌, ℕ, ◌<◌, List, [], length, Err, IfOk, IfSome, OnOk, Option, Some};
+ghost use Rattle.std.specs.Prelude.{◌≡◌, ◌≢◌, ℕ, ◌<◌, List, [], length, Err, IfOk, IfSome, OnErr, OnOk, Option};
+ghost use Rattle.std.specs.Prelude.{Some};
 ghost use Rattle.std.specs.Option.{option_map};
 ghost use Rattle.chunk_server.specs.Answers.{chunk_held};
 ghost use Rattle.chunk_server.specs.Reads.{ReadsFile, answer_by, asked_by};
@@ -119,6 +120,7 @@ impl ChunkFile {
             → chunk_held kind id.now.0 held ≡ option_map (λ b. b.now) o) }
         ensures named { IfOk result (λ o. IfSome o (λ b. name_of kind b.now ≡ id.now.0)) }
         ensures only { result ≡ Err IoFault.Failed → self.now.outcome ≡ Err GetFault.Failed }
+        ensures unfailed { result ≢ Err IoFault.Failed → self.now.outcome ≢ Err GetFault.Failed }
     {
         match self.outcome {
             Ok(n) => {
@@ -147,6 +149,7 @@ impl ChunkFile {
         ensures only { IfOk result (λ r. IsAnswer kind (asked_by method id.now) (answer_in r)) }
         ensures ok { IfOk result (λ r. (old new : ServedFolder) (body : List ℕ) → ReadsFile id.now.0 old self.now new
             → ServesOrFails kind old (asked_by method id.now) body (answer_in r) new) }
+        ensures unfailed { OnErr result (self.now.outcome ≢ Err GetFault.Failed) }
     {
         match self.chunk(kind, id) {
             Ok(Some(chunk)) => method.reply(alloc, chunk),

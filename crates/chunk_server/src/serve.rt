@@ -1,6 +1,6 @@
 //! A connection is served to its end.
 
-ghost use Rattle.std.specs.Prelude.{◌≡◌, ◌≤◌, IfSome};
+ghost use Rattle.std.specs.Prelude.{◌≡◌, ◌≢◌, ◌≤◌, IfSome};
 ghost use Rattle.chunk_server.specs.Turns.{Cut, Lacking, Served as ServedWhole};
 ghost use Rattle.dsy_base.specs.Counts.{Rose};
 ghost use Rattle.http_serve.specs.Streams.{given_in};
@@ -24,6 +24,7 @@ pub fn serve<K: Link, H: Shelf>(alloc: Global, link: &mut K, shelf: &mut H) -> S
     ensures lacking { result ≡ Served.Memory → IfSome (K.state link.old).traffic (λ t. IfSome (K.state link.new).traffic
         (λ u. Lacking (H.digest shelf.old) H.may (H.takes shelf.old) t (H.state shelf.old) u (H.state shelf.new))) }
     ensures cause { result ≡ Served.LinkFault → Rose (K.state link.old).faults (K.state link.new).faults }
+    ensures unfailed { result ≢ Served.LinkFault → (K.state link.new).faults ≡ (K.state link.old).faults }
     ensures given { given_in (K.state link.new).traffic ≡ given_in (K.state link.old).traffic }
     ensures faults { (K.state link.old).faults ≤ (K.state link.new).faults }
     ensures kind { H.digest shelf.new ≡ H.digest shelf.old }

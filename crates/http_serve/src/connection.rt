@@ -1,6 +1,6 @@
 //! A connection is served to its end.
 
-ghost use Rattle.std.specs.Prelude.{◌≡◌, ◌≤◌, length, false, true, IfOk, IfSome, OnErr, Ok, Err};
+ghost use Rattle.std.specs.Prelude.{◌≡◌, ◌≢◌, ◌≤◌, length, false, true, IfOk, IfSome, OnErr, Ok, Err};
 ghost use Rattle.dsy_base.specs.Counts.{CountsFaults, Rose};
 ghost use Rattle.http_frames.specs.HeadEnd.{head_limit};
 ghost use Rattle.http_serve.specs.Answers.{answer_in};
@@ -108,6 +108,7 @@ pub fn serve_connection<K: Link, S: Service>(
     ensures lacking { result ≡ Served.Memory → IfSome (K.state link.old).traffic (λ t. IfSome (K.state link.new).traffic
         (λ u. Lacking (S.protocol (S.setting desk.old)) t (S.state desk.old) u (S.state desk.new))) }
     ensures cause { result ≡ Served.LinkFault → Rose (K.state link.old).faults (K.state link.new).faults }
+    ensures unfailed { result ≢ Served.LinkFault → (K.state link.new).faults ≡ (K.state link.old).faults }
     ensures given { given_in (K.state link.new).traffic ≡ given_in (K.state link.old).traffic }
     ensures faults { (K.state link.old).faults ≤ (K.state link.new).faults }
     ensures kept { S.setting desk.new ≡ S.setting desk.old }

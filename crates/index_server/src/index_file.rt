@@ -5,7 +5,7 @@ ghost use Rattle.caibx_codec.specs.Answers.{FindsIndex};
 ghost use Rattle.caibx_fields.specs.Limits.{file_limit};
 ghost use Rattle.chunk_store.specs.Causes.{CountsCause};
 ghost use Rattle.dsy_base.specs.Maps.{ReadGives};
-ghost use Rattle.index_server.specs.Answers.{IsSpelled, index_held, is_index, index_folder};
+ghost use Rattle.index_server.specs.Answers.{IsSpelled, IsUnfailedRead, first_read, index_held, is_index, index_folder};
 ghost use Rattle.index_server.specs.Finding.{FindsFile, ReadsAsIndex};
 
 use caibx_codec::index::Index;
@@ -21,24 +21,40 @@ use std::marker::Model;
 /// How many bytes of a file are read at first: 256 KiB, which is an index of 6,500 chunks.
 const FIRST_READ: usize = 262_144;
 
-// Makes the buffer longer, at least twice as long where it may be.
+/// How much longer the room for a file becomes where that has more bytes: 1 MiB. A folder of the operating system tells
+/// this by the file's size, and reads nothing: so the room becomes no longer than is needed, and the file is read once.
+const STEP: usize = 1_048_576;
+
+// A buffer of this size.
+fn buffer_of(alloc: Global, size: usize) -> Result<Vec<u8>, AllocError>
+    ensures room { IfOk result (λ v. length v.items ≡ size) }
+{
+    vec![in alloc; 0u8; size]
+}
+
+// Makes the buffer longer.
 fn grow(buffer: &mut Vec<u8>) -> Result<(), AllocError>
     requires room { length buffer.old.items < file_limit }
     ensures ok { OnOk result (length buffer.old.items < length buffer.new.items) }
     ensures room { length buffer.new.items ≤ file_limit }
 {
-    let size = (buffer.len() * 2).max(FIRST_READ).min(FILE_LIMIT as usize);
+    let size = (buffer.len() + STEP).min(FILE_LIMIT as usize);
     buffer.resize(size, 0)
 }
 
 // Reads the file of this name to the front of the buffer, which becomes as long as is needed. `Longer`: it has more
 // bytes than the longest index file.
 fn read_whole<F: Look>(folder: &mut F, name: &str, buffer: &mut Vec<u8>) -> Result<usize, FileFault>
+    requires first { first_read ≤ length buffer.old.items }
     requires room { length buffer.old.items ≤ file_limit }
     ensures room { length buffer.new.items ≤ file_limit }
     ensures bytes { IfSome (F.files folder.old) (λ m. ReadGives (m name.now) result buffer.new.items) }
     ensures ok { IfOk result (λ n. n ≤ length buffer.new.items) }
     ensures longer { result ≡ Err FileFault.Longer → length buffer.new.items ≡ file_limit }
+    ensures unfailed { result ≡ Err FileFault.Memory → IsUnfailedRead name.now
+        (index_folder F.files F.faults folder.old) (index_folder F.files F.faults folder.new) }
+    ensures done { OnOk result (IsUnfailedRead name.now
+        (index_folder F.files F.faults folder.old) (index_folder F.files F.faults folder.new)) }
     ensures kept { F.files folder.new ≡ F.files folder.old }
     ensures place { F.place folder.new ≡ F.place folder.old }
     ensures faults { CountsCause FileFault.Failed (F.faults folder.old) (F.faults folder.new) result }
@@ -120,12 +136,13 @@ impl IndexFile {
     ) -> Result<Option<IndexFile>, IoFault>
         ensures found { FindsFile name.now (index_folder F.files F.faults folder.old) result
             (index_folder F.files F.faults folder.new) }
+        ensures unfailed { result ≡ Err IoFault.Memory → IsUnfailedRead name.now
+            (index_folder F.files F.faults folder.old) (index_folder F.files F.faults folder.new) }
         ensures place { F.place folder.new ≡ F.place folder.old }
     {
-        let mut bytes = Vec::new(alloc);
-        if grow(&mut bytes).is_err() {
+        let Ok(mut bytes) = buffer_of(alloc, FIRST_READ) else {
             return Err(IoFault::Memory);
-        }
+        };
         match read_whole(folder, name, &mut bytes) {
             Ok(n) => {
                 bytes.truncate(n);

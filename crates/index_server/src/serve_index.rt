@@ -1,6 +1,6 @@
 //! A connection to a server of indexes is served to its end.
 
-ghost use Rattle.std.specs.Prelude.{◌≡◌, ◌≤◌, IfSome};
+ghost use Rattle.std.specs.Prelude.{◌≡◌, ◌≢◌, ◌≤◌, IfSome};
 ghost use Rattle.dsy_base.specs.Counts.{Rose};
 ghost use Rattle.http_serve.specs.Streams.{given_in};
 ghost use Rattle.http_serve.specs.Turns.{Cut, Lacking, Served as ServedWhole};
@@ -33,6 +33,7 @@ pub fn serve_index<K: Link, F: Folder>(
         (λ u. Lacking (index_protocol state.old.writable) t (index_folder F.files F.faults state.old.folder) u
         (index_folder F.files F.faults state.new.folder))) }
     ensures cause { result ≡ Served.LinkFault → Rose (K.state link.old).faults (K.state link.new).faults }
+    ensures unfailed { result ≢ Served.LinkFault → (K.state link.new).faults ≡ (K.state link.old).faults }
     ensures given { given_in (K.state link.new).traffic ≡ given_in (K.state link.old).traffic }
     ensures faults { (K.state link.old).faults ≤ (K.state link.new).faults }
     ensures kept { state.new.writable ≡ state.old.writable }

@@ -1,11 +1,11 @@
 //! A folder of indexes that answers requests. Sizes are in bytes.
 
-ghost use Rattle.std.specs.Prelude.{◌≡◌, ◌≤◌, ℕ, List, length, false, true, IfOk, OnErr, Some};
+ghost use Rattle.std.specs.Prelude.{◌≡◌, ◌≤◌, ℕ, List, length, false, true, Err, IfOk, OnErr, Some};
 ghost use Rattle.caibx_fields.specs.Limits.{file_limit};
 ghost use Rattle.http_serve.specs.Answers.{answer_in};
 ghost use Rattle.http_wire.specs.IndexRequest.{is_refused};
 ghost use Rattle.index_server.specs.Answers.{KeepsButTemporaries, IsIndexAnswer, IsSpelled, IndexFolder};
-ghost use Rattle.index_server.specs.Answers.{AnswersIndexOrFails, is_index, index_folder};
+ghost use Rattle.index_server.specs.Answers.{AnswersIndexOrFails, IsUnfailed, IsUnfailedRead, is_index, index_folder};
 ghost use Rattle.index_server.specs.Finding.{FindsFile, index_answer_by, index_asked_by};
 
 use crate::index_file::{IndexFile, is_index};
@@ -53,6 +53,7 @@ impl ReadMethod {
             → IsIndexAnswer (index_asked_by self name) body (answer_in r)) }
         ensures ok { IfOk result (λ r. (old new : IndexFolder) (name body : List ℕ) → FindsFile name old found new
             → AnswersIndexOrFails old (index_asked_by self name) body (answer_in r) new) }
+        ensures unfailed { OnErr result (found ≡ Err IoFault.Memory) }
     {
         match found {
             Ok(Some(file)) => Ok(self.tell(alloc, file)),
@@ -112,6 +113,8 @@ impl<F: Folder> IndexState<F> {
         ensures ok { IfOk result (λ r. (body : List ℕ)
             → AnswersIndexOrFails (index_folder F.files F.faults self.old.folder) (index_asked_by method name.now) body
             (answer_in r) (index_folder F.files F.faults self.new.folder)) }
+        ensures unfailed { OnErr result (IsUnfailedRead name.now (index_folder F.files F.faults self.old.folder)
+            (index_folder F.files F.faults self.new.folder)) }
         ensures files { F.files self.new.folder ≡ F.files self.old.folder }
         ensures place { F.place self.new.folder ≡ F.place self.old.folder }
         ensures faults { F.faults self.old.folder ≤ F.faults self.new.folder }
@@ -129,6 +132,7 @@ impl<F: Folder> IndexState<F> {
         ensures ok { IfOk result (λ r. AnswersIndexOrFails (index_folder F.files F.faults self.old.folder)
             (IndexAct.Put name.now) body.now (answer_in r) (index_folder F.files F.faults self.new.folder)) }
         ensures err { OnErr result (KeepsButTemporaries (F.files self.old.folder) (F.files self.new.folder)) }
+        ensures unfailed { OnErr result (F.faults self.new.folder ≡ F.faults self.old.folder) }
         ensures place { F.place self.new.folder ≡ F.place self.old.folder }
         ensures faults { F.faults self.old.folder ≤ F.faults self.new.folder }
         ensures kept { self.new.writable ≡ self.old.writable }
@@ -147,6 +151,7 @@ impl<F: Folder> IndexState<F> {
         ensures ok { IfOk result (λ r. AnswersIndexOrFails (index_folder F.files F.faults self.old.folder)
             (IndexAct.Put name.now) body.now (answer_in r) (index_folder F.files F.faults self.new.folder)) }
         ensures err { OnErr result (KeepsButTemporaries (F.files self.old.folder) (F.files self.new.folder)) }
+        ensures unfailed { OnErr result (F.faults self.new.folder ≡ F.faults self.old.folder) }
         ensures place { F.place self.new.folder ≡ F.place self.old.folder }
         ensures faults { F.faults self.old.folder ≤ F.faults self.new.folder }
         ensures kept { self.new.writable ≡ self.old.writable }
@@ -168,6 +173,8 @@ impl<F: Folder> IndexState<F> {
         ensures ok { IfOk result (λ r. AnswersIndexOrFails (index_folder F.files F.faults self.old.folder)
             act.now body.now (answer_in r) (index_folder F.files F.faults self.new.folder)) }
         ensures err { OnErr result (KeepsButTemporaries (F.files self.old.folder) (F.files self.new.folder)) }
+        ensures unfailed { OnErr result (IsUnfailed (index_folder F.files F.faults self.old.folder) act.now
+            (index_folder F.files F.faults self.new.folder)) }
         ensures place { F.place self.new.folder ≡ F.place self.old.folder }
         ensures faults { F.faults self.old.folder ≤ F.faults self.new.folder }
         ensures kept { self.new.writable ≡ self.old.writable }
