@@ -50,6 +50,43 @@ impl Locations {
     }
 }
 
+/// Groups of locations, which contracts see as a list of lists. The stores of a group are meant to hold
+/// the same chunks.
+#[derive(Debug, Drop)]
+pub struct Groups {
+    list: Vec<Locations>,
+}
+
+impl Model for Groups {
+    ghost use Rattle.std.specs.Prelude.{List};
+    ghost use Rattle.command_words.specs.declared.command.Location.{Location};
+
+    ghost Value = { List (List Location) };
+
+    ghost view = { λ g. g.list.items };
+}
+
+impl Groups {
+    pub fn of(list: Vec<Locations>) -> Groups
+        ensures { result ≡ list.items }
+    {
+        Groups { list }
+    }
+
+    pub fn into_vec(self) -> Vec<Locations>
+        ensures { result.items ≡ self }
+    {
+        let Groups { list } = self;
+        list
+    }
+
+    pub fn as_slice(&self) -> &[Locations]
+        ensures { result.now ≡ self.now }
+    {
+        self.list.as_slice()
+    }
+}
+
 /// Names in order, which contracts see as a list.
 #[derive(Debug, Drop)]
 pub struct Names {
