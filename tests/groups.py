@@ -1,6 +1,6 @@
 #!/usr/bin/env python3
-"""Groups of stores, `-s 'a|b'`, and failed calls that are made again, `-e N`: `extract`, `cache` and `info` over servers
-that end, fail and are busy, over folders that can't be read, and over full disks.
+"""Groups of stores, `-s 'a|b'`, and failed calls that are made again, `-e N`: `extract`, `cache` and `info` over
+servers that end, fail and are busy, over folders that can't be read, and over full disks.
 
 The servers listen on the loopback interface alone: those of this script, and `desync chunk-server` behind one that
 notes each request, which it may end before by the number of its process. With one worker the requests are compared one
