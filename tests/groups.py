@@ -593,8 +593,9 @@ class Scene:
         self.sizes = [chance.randint(1, 3) for _ in range(chance.randint(1, 3))]
         self.retries = chance.randint(0, 2)
         self.seed = chance.random()
-        self.weights = [chance.choice(((6, 1, 1, 3), (1, 0, 0, 9), (3, 2, 2, 9), (9, 0, 0, 3), (0, 3, 3, 4)))
-                        for _ in range(sum(self.sizes))]
+        # How often each kind of answer comes, for each store.
+        ways = (6, 1, 1, 3), (1, 0, 0, 9), (3, 2, 2, 9), (9, 0, 0, 3), (0, 3, 3, 4), (1, 9, 0, 2)
+        self.weights = [chance.choice(ways) for _ in range(sum(self.sizes))]
 
     def kind(self, store, number):
         """What the store answers to its request of this number."""
@@ -618,19 +619,20 @@ class Scene:
 
     def read(self, passes):
         """A second reading: what is asked, which entries are had, and what the first refusal of the last pass is. An
-        entry that isn't had is asked for in each pass."""
+        entry that isn't had is asked for in each of two passes; with one, the first refusal ends the run."""
         asked, seen = [], [0] * sum(self.sizes)
         active = [0] * len(self.sizes)
         had, refused = set(), None
         for _ in range(passes):
             refused = None
             for entry in range(len(self.image.names)):
-                if entry not in had:
-                    why = self.obtain(entry, active, seen, asked)
-                    if why is None:
-                        had.add(entry)
-                    elif refused is None:
-                        refused = (entry, *why)
+                if entry in had or passes == 1 and refused:
+                    continue
+                why = self.obtain(entry, active, seen, asked)
+                if why is None:
+                    had.add(entry)
+                elif refused is None:
+                    refused = (entry, *why)
         return asked, had, refused
 
     def obtain(self, entry, active, seen, asked):
@@ -670,28 +672,39 @@ class Scene:
                                                                                  store)
 
 
+def run_scene(scene, words, passes):
+    """Runs the words over the scene's stores, and compares how they end and what they ask. Answers the run, the entries
+    that are had, and the text."""
+    with servers.Server(scene.answer([0] * sum(scene.sizes))) as server:
+        given = ['-e', str(scene.retries), *stored(*scene.stores(server.url()))]
+        ended = program.run([*words, *given], scene.image.folder)
+    asked, had, refused = scene.read(passes)
+    text = scene.text(refused)
+    expect_equal(ended.err.decode(), f'desync: {text}\n' if text else '', f'standard error of {words[0]}')
+    expect_equal(ended.status, 1 if text else 0, f'the status of {words[0]}')
+    entries = {path: entry for entry, (_, path) in enumerate(scene.image.asks())}
+    got = []
+    for _, path in server.asked:
+        store, rest = path[1:].split('/', 1)
+        got.append((int(store), entries['/' + rest]))
+    expect_equal(got, asked, f'what {words[0]} asked, as (store, entry)')
+    return ended, had, text
+
+
 def scenes(cases):
     told = collections.Counter()
-    for number in range(60):
+    for number in range(80):
         with cases.case(f'scene {number} of servers that answer by chance') as folder:
             chance = random.Random(f'groups {number}')
             image = Image(folder, chance.randint(1, 12))
             scene = Scene(image, chance)
-            paths = {path: entry for entry, (_, path) in enumerate(image.asks())}
-
-            def run(words, passes, scene=scene, paths=paths):
-                with servers.Server(scene.answer([0] * sum(scene.sizes))) as server:
-                    ended = program.run([*words, '-e', str(scene.retries), *stored(*scene.stores(server.url()))],
-                                        scene.image.folder)
-                asked, had, refused = scene.read(passes)
-                expect_ended(ended, scene.text(refused), what=f'{words[0]}')
-                split = [(path.split('/')[1], '/' + path.split('/', 2)[2]) for _, path in server.asked]
-                got = [(int(store), paths[path]) for store, path in split]
-                expect_equal(got, asked, f'what {words[0]} asked, as (store, entry)')
-                told[scene.text(refused).split(' ')[0], 'damaged' in scene.text(refused)] += 1
-                return had, refused
-            had, _ = run(['extract', '-n', '1', '-k', 'new.caibx', 'out'], 2)
+            ended, had, text = run_scene(scene, ['extract', '-n', '1', '-k', 'new.caibx', 'out'], 2)
             expect_bytes(image, image_of(image, lambda entry, had=had: entry in had))
+            told[text[:5], 'damaged' in text] += 1
+            ended, had, text = run_scene(scene, ['cat', 'new.caibx'], 1)
+            expect(ended.out == b''.join(image.pieces[:len(had)]), 'cat prints others')
+            ended, had, text = run_scene(scene, ['cache', '-n', '1', '-c', 'near', 'new.caibx'], 1)
+            image.expect_store('near', len(had))
     with cases.case('the scenes had each outcome'):
         for kind in (('', False), ('store', False), ('chunk', False), ('chunk', True)):
             expect(told[kind] > 2, f'{kind} came {told[kind]} times')
