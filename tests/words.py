@@ -405,7 +405,7 @@ def places_of_indexes(cases):
 
 def at_random(cases):
     told = Counter()
-    for round_number in range(30):
+    for round_number in range(40):
         with cases.case(f'random words, round {round_number}') as folder:
             chance = random.Random(f'words {round_number}')
             for _ in range(100):
