@@ -68,10 +68,10 @@ INDEX_URLS = ['http://h/a.caibx', 'http://localhost:8080/a/b/', 'http://h/|']
 
 # Locations, and what each is.
 LOCATIONS = {'st': 'folder', 'a b': 'folder', '-s': 'folder', '--': 'folder', 'http:/h': 'folder', ':': 'folder',
-             'http://localhost': 'url', 'http://h/': 'url', 'http://localhost:8080/a/b/': 'url', 'http://127.0.0.1/': 'url',
-             'https://h/': 'bad', 'ftp://h/': 'bad', 'http://u@h/': 'bad', 'http://u:p@h/': 'bad', 'http://h/?q': 'bad',
-             'http://h/#f': 'bad', 'http://h:x/': 'bad', 'http://': 'bad', '://': 'bad', 'a|b': 'bad',
-             'http://h/|': 'bad'}
+             'http://localhost': 'url', 'http://h/': 'url', 'http://localhost:8080/a/b/': 'url',
+             'http://127.0.0.1/': 'url', 'https://h/': 'bad', 'ftp://h/': 'bad', 'http://u@h/': 'bad',
+             'http://u:p@h/': 'bad', 'http://h/?q': 'bad', 'http://h/#f': 'bad', 'http://h:x/': 'bad', 'http://': 'bad',
+             '://': 'bad', 'a|b': 'bad', 'http://h/|': 'bad'}
 
 
 # The second reading
