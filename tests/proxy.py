@@ -13,9 +13,11 @@ import signal
 import sys
 import threading
 
+import failing
 import formats
 import program
 import servers
+import workers
 from checks import (DAMAGES, Cases, Skip, expect, expect_ended, expect_equal, expect_files, file_bytes, files_of,
                     needs_program, put_file)
 from groups import (CREWS, FAILED, PIECES, answering, expect_bytes, expect_passed_over, fill_up, group, image_of,
@@ -440,6 +442,48 @@ def full_disk(cases, count):
             expect_equal(files_of(folder), before, 'the files')
 
 
+# Calls that fail
+
+SAID = [(GET_ABC, GIVES_ABC), (request('GET', path_of(b'lacking')), NOTHING), (HEAD_ABC, HEADS_ABC)]
+
+
+def failing_calls(cases, count, shim):
+    """One call fails, the next one in the next run. Where it is about the cache nothing is to be seen of it; where it is
+    about the store a chunk isn't given. The next peer is served."""
+    sent, whole = (b''.join(parts) for parts in zip(*((said, wanted.bytes) for said, wanted in SAID)))
+    for call in ('open', 'pread', 'pwrite', 'mkdir', 'rename'):
+        with cases.case(f'each {call} of a proxy fails once, -n {count}') as top:
+            failed = []
+            for at in range(60):
+                folder = os.path.join(top, str(at))
+                os.mkdir(folder)
+                lay_out(folder, ca=b'abX' if at % 2 else None)
+                told, error = os.path.join(top, f'told-{at}'), failing.HARD[call][at % len(failing.HARD[call])]
+                environment = shim().environment(call, at, error, False, told)
+                with proxy(folder, '-n', str(count), environment=environment) as server:
+                    got = said_to(server, sent)
+                    paths = (file_bytes(told) or b'').decode().splitlines()
+                    firsts = [os.path.relpath(os.path.join(folder, path), folder).split(os.sep)[0] for path in paths]
+                    expect('st' in firsts or got == whole, f'{call} {at}, of {paths}: the replies are {got}')
+                    expect(could_be(got), f'{call} {at}, of {paths}: the replies are {got}')
+                    expect_equal(said_to(server, sent), whole, f'{call} {at}: the next replies')
+                    expect_cache(folder, ABC)
+                failed += firsts
+                if not file_bytes(told):
+                    break
+            else:
+                raise AssertionError('each run has failed')
+            expect('ca' in failed, f'no {call} of the cache has failed')
+
+
+def could_be(got):
+    """Whether these are the replies, where some say that the chunk isn't given."""
+    fronts = {b''}
+    for _, wanted in SAID:
+        fronts = {front + said for front in fronts for said in (wanted.bytes, NOTHING.bytes, Wanted(500).bytes)}
+    return got in fronts
+
+
 # Words
 
 def words(cases):
@@ -491,6 +535,9 @@ def main():
     for count in CREWS:
         for part in (one_chunk, origin_ends, groups_and_retries, full_disk):
             part(cases, count)
+    shim = workers.compiled(cases.top)
+    for count in CREWS:
+        failing_calls(cases, count, shim)
     for part in (largest, before_servers, many_clients, side_by_side, words):
         part(cases)
     return cases.end()
