@@ -7,6 +7,7 @@ them. All listen on the loopback interface at free ports. The replies are spelle
 
 import collections
 import contextlib
+import itertools
 import os
 import resource
 import signal
@@ -448,32 +449,37 @@ SAID = [(GET_ABC, GIVES_ABC), (request('GET', path_of(b'lacking')), NOTHING), (H
 
 
 def failing_calls(cases, count, shim):
-    """One call fails, the next one in the next run. Where it is about the cache nothing is to be seen of it; where it is
-    about the store a chunk isn't given. The next peer is served."""
-    sent, whole = (b''.join(parts) for parts in zip(*((said, wanted.bytes) for said, wanted in SAID)))
+    """One call fails, the next one in the next run. Where it is about the cache nothing is to be seen of it; where it
+    is about the store a chunk isn't given. The next peer is served."""
     for call in ('open', 'pread', 'pwrite', 'mkdir', 'rename'):
         with cases.case(f'each {call} of a proxy fails once, -n {count}') as top:
             failed = []
             for at in range(60):
-                folder = os.path.join(top, str(at))
-                os.mkdir(folder)
-                lay_out(folder, ca=b'abX' if at % 2 else None)
-                told, error = os.path.join(top, f'told-{at}'), failing.HARD[call][at % len(failing.HARD[call])]
-                environment = shim().environment(call, at, error, False, told)
-                with proxy(folder, '-n', str(count), environment=environment) as server:
-                    got = said_to(server, sent)
-                    paths = (file_bytes(told) or b'').decode().splitlines()
-                    firsts = [os.path.relpath(os.path.join(folder, path), folder).split(os.sep)[0] for path in paths]
-                    expect('st' in firsts or got == whole, f'{call} {at}, of {paths}: the replies are {got}')
-                    expect(could_be(got), f'{call} {at}, of {paths}: the replies are {got}')
-                    expect_equal(said_to(server, sent), whole, f'{call} {at}: the next replies')
-                    expect_cache(folder, ABC)
-                failed += firsts
-                if not file_bytes(told):
+                told = [call_fails(os.path.join(top, f'{at}-{held}'), count, shim(), call, at, held)
+                        for held in (None, 'abX')]
+                failed += itertools.chain(*told)
+                if not any(told):
                     break
             else:
                 raise AssertionError('each run has failed')
             expect('ca' in failed, f'no {call} of the cache has failed')
+
+
+def call_fails(folder, count, shim, call, at, held):
+    """Answers what the failed call was about: `st` or `ca`."""
+    os.mkdir(folder)
+    lay_out(folder, ca=held and held.encode())
+    sent, whole = (b''.join(parts) for parts in zip(*((said, wanted.bytes) for said, wanted in SAID)))
+    told, error = f'{folder}.told', failing.HARD[call][at % len(failing.HARD[call])]
+    environment = shim.environment(call, at, error, False, told)
+    with proxy(folder, '-n', str(count), environment=environment) as server:
+        got = said_to(server, sent)
+        paths = (file_bytes(told) or b'').decode().splitlines()
+        firsts = [os.path.relpath(os.path.join(folder, path), folder).split(os.sep)[0] for path in paths]
+        expect(could_be(got) and ('st' in firsts or got == whole), f'{call} {at}, of {paths}: the replies are {got}')
+        expect_equal(said_to(server, sent), whole, f'{call} {at}, of {paths}: the next replies')
+        expect_cache(folder, ABC)
+    return firsts
 
 
 def could_be(got):
