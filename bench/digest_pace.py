@@ -2,7 +2,8 @@
 """`desync verify-index -n 1` of an image by either digest, beside the same digest of all its chunks alone by the same
 library, in a program of a few lines that `rt` proves and builds first; and beside openssl.
 
-The image is of random bytes, cut every 64 KiB. At least 0.9 of the pace of the digest alone is wanted.
+The image is of random bytes, cut every 64 KiB. At least 0.9 of the pace of the digest alone is wanted. Needs the
+image's size under the temporary folder.
 """
 
 import os

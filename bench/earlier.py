@@ -88,6 +88,21 @@ def print_counts(pairs, folder):
         print(f'{pair[0].what:28} {was:13}{least:13} {least / was:7.4f} {old:7}{new:7}')
 
 
+def alternate(pairs, folder, runs):
+    """Runs each pair in every round, and its second row first in every second round."""
+    for number in range(runs):
+        for pair in pairs:
+            side_by_side.measure(pair[::-1] if number % 2 else pair, folder, 1)
+
+
+def print_pairs(pairs, at_most):
+    print(f'{"seconds":28} {"processor":>16} {"ratio":>7} {"at most":>8} {"clock":>16} {"ratio":>7}')
+    for earlier, now in pairs:
+        (was, least), (old, new) = map(min, (earlier.processor, now.processor)), (earlier.median(), now.median())
+        print(f'{now.what:28} {was:8.3f}{least:8.3f} {least / was:7.3f} {at_most:8.2f} {old:8.3f}{new:8.3f} '
+              f'{new / old:7.3f}')
+
+
 def main():
     parser = side_by_side.options(__doc__, 256)
     parser.add_argument('earlier', help='the earlier build of the program')
@@ -103,16 +118,10 @@ def main():
             print(f'an image of {size} bytes, {len(index.entries)} chunks')
             print_counts(pairs, folder)
             return
-        for number in range(options.runs):
-            for pair in pairs:
-                side_by_side.measure(pair[::-1] if number % 2 else pair, folder, 1)
+        alternate(pairs, folder, options.runs)
         print(f'an image of {size} bytes, {len(index.entries)} chunks; {options.runs} runs; the load average is '
               f'{os.getloadavg()[0]:.1f}')
-        print(f'{"seconds":28} {"processor":>16} {"ratio":>7} {"at most":>8} {"clock":>16} {"ratio":>7}')
-        for earlier, now in pairs:
-            (was, least), (old, new) = map(min, (earlier.processor, now.processor)), (earlier.median(), now.median())
-            print(f'{now.what:28} {was:8.3f}{least:8.3f} {least / was:7.3f} {AT_MOST:8.2f} {old:8.3f}{new:8.3f} '
-                  f'{new / old:7.3f}')
+        print_pairs(pairs, AT_MOST)
 
 
 if __name__ == '__main__':

@@ -1,16 +1,21 @@
 #!/usr/bin/env python3
 """Reads the image of a real file system at random through `desync cat`, from a folder, from servers, and into pipes.
 
-The image is that of tests/updating.py. What debugfs says of it, and its own bytes, are what is wanted.
+The image is that of tests/updating.py. What debugfs says of it, and its own bytes, are what is wanted. Groups of stores
+are those of tests/groups.py.
 """
 
+import contextlib
 import os
 import random
 import re
+import shutil
 import subprocess
 import sys
 
 import formats
+import groups
+import http_stores
 import program
 import servers
 import updating
@@ -184,6 +189,68 @@ def refusals(cases, disk):
         expect_put(program.run(words, disk.folder), disk.bytes[:10], what='the next store')
 
 
+class Small(http_stores.Image):
+    """An image of a few pieces, which `cat` prints."""
+
+    def __init__(self, folder):
+        super().__init__(folder, 20)
+        self.slices = list(self.index.slices())
+
+    def cat(self, *stores, retries=None, offset=None, length=None):
+        given = [] if retries is None else ['-e', str(retries)]
+        words = [*given, *groups.stored(*stores), *range_words(offset, length)]
+        return self.run('cat', *words, 'new.caibx')
+
+    def before(self, entry):
+        return b''.join(self.pieces[:entry])
+
+
+def groups_of_stores(cases):
+    for retries, at in ((0, 7), (2, 7), (None, 0)):
+        with cases.case(f'the first of two servers ends before request {at}, -e {retries}') as folder, \
+                contextlib.ExitStack() as held:
+            image = Small(folder)
+            first, second = groups.mirror(image, held, at), groups.mirror(image, held)
+            expect_put(image.cat(groups.group(first, second), retries=retries), image.bytes)
+            asks = image.asks()
+            expect_equal(first.asked, asks[:at] + asks[at:at + 1] * ((retries or 0) + 1), 'what the first was asked')
+            expect_equal(second.asked, asks[at:], 'what the second was asked')
+    with cases.case('both servers end') as folder, contextlib.ExitStack() as held:
+        image = Small(folder)
+        first, second = groups.mirror(image, held, 5), groups.mirror(image, held, 4)
+        expect_put(image.cat(groups.group(first, second), retries=1), image.before(9), 'store 0 failed')
+        asks = image.asks()
+        expect_equal(first.asked, asks[:5] + asks[5:6] * 2 + asks[9:10] * 2, 'what the first was asked')
+        expect_equal(second.asked, asks[5:9] + asks[9:10] * 2, 'what the second was asked')
+    with cases.case('a server fails each second reply') as folder:
+        image = Small(folder)
+        with groups.answering(image, lambda number: 500 if number % 2 else 200) as server:
+            expect_put(image.cat(server.url(), retries=1), image.bytes)
+            expect_equal(server.asked, image.asks()[:1] + groups.times(image.asks()[1:], 2), 'what was asked')
+        with groups.answering(image, lambda number: 500 if number % 2 else 200) as server:
+            expect_put(image.cat(server.url()), image.before(1), 'store 0 failed')
+            expect_equal(server.asked, image.asks()[:2], 'what was asked without -e')
+    with cases.case('a range, where a folder fails and a URL stands behind it') as folder, \
+            contextlib.ExitStack() as held:
+        image = Small(folder)
+        shutil.copytree(image.path('all'), image.path('far'))
+        groups.unreadable(image, 'all', 7)
+        front = groups.mirror(image, held, store='far')
+        start, end = image.slices[5][0] + 3, image.slices[9][1] - 3
+        ended = image.cat(f'all|{front.url()}', retries=2, offset=start, length=end - start)
+        expect_put(ended, image.bytes[start:end])
+        expect_equal(front.asked, image.asks()[7:10], 'what the server was asked')
+    for what, spoil in (('missing', os.remove), ('damaged', lambda path: put_file(path, b'x'))):
+        with cases.case(f'a {what} chunk isn\'t sought in the next folder of the group, but in the next -s') as folder:
+            image = Small(folder)
+            shutil.copytree(image.path('all'), image.path('far'))
+            spoil(formats.chunk_path(image.path('all'), image.names[7]))
+            expect_put(image.cat('all|far', retries=3), image.before(7), image.refusal(what, 7))
+            expect_put(image.cat('all', 'far', retries=3), image.bytes)
+            text = formats.refusal(7, image.names[7], what, 3)
+            expect_put(image.cat('none|far', 'none', 'all|far'), image.before(7), text)
+
+
 def main():
     needs_program('cat')
     cases = Cases('cat')
@@ -197,6 +264,7 @@ def main():
         early_ends(cases, disk)
         refusals(cases, disk)
     asked_for(cases)
+    groups_of_stores(cases)
     return cases.end()
 
 

@@ -389,6 +389,30 @@ def server_is_asked(cases, shim, each, what, call):
             fail_each(shim, scene, call, each)
 
 
+ASKING_AGAIN = {
+    'cache': (['cache', '-e', '1', '-c', 'near', 'a.caibx', '-s'], fills('near')),
+    'cat': (['cat', '-e', '1', '-o', '5', 'a.caibx', '-s'], no_change),
+    'info': (['info', '-e', '1', 'a.caibx', '-s'], no_change),
+}
+
+
+def server_is_asked_again(cases, shim, each, what, call):
+    """These end at the first chunk that isn't had. With `-e 1` one failed call is no reason to."""
+    words, changes = ASKING_AGAIN[what]
+    with cases.case(f'{what} -e 1 with a server: each {call} fails once, and nothing is lost') as folder:
+        os.mkdir(os.path.join(folder, 'served'))
+        with ChunkServer(folder, store='served') as server:
+            scene = FromServer(folder, [*words, server.url()], changes)
+            for at in range(MOST):
+                for error in errors_of(call, at, each):
+                    scene.anew()
+                    ended, paths = shim.run(scene, call, at, error)
+                    scene.judge_whole(ended)
+                if not paths:
+                    break
+            expect(at > 0, f'no {call} has failed')
+
+
 ABC = b'abc'
 ASKED = [(put(path_of(b'new'), b'new'), Wanted(200)), (request('GET', path_of(ABC)), Wanted(200, ABC)),
          (request('HEAD', path_of(ABC)), Wanted(200, length=3)), (request('GET', path_of(b'none')), Wanted(404))]
@@ -675,6 +699,7 @@ def parts(shim, each):
         *((server_without_memory, shim, workers, turn) for workers in ('1', '8') for turn in range(TURNS)),
         *((refused_memory, shim, what, more) for what in SCENES for more in (False, True)),
         *((server_is_asked, shim, each, what, call) for what in ASKING for call in NETWORK),
+        *((server_is_asked_again, shim, each, what, call) for what in ASKING_AGAIN for call in NETWORK),
         *((server_fails, shim, workers, call) for workers in ('1', '8') for call in SERVING),
         *small,
         *((one_call_fails, shim, each, what, call) for what in SCENES for call in of_files),

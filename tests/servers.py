@@ -1,7 +1,8 @@
 """Servers of chunks on the loopback interface, each of which ends with its `with`.
 
 A chunk's path is a prefix, the first four digits of its id, and all 64. `Server` answers each connection by a function
-of the request's bytes; `static` and `nginx` serve a folder as files; `ChunkServer` and `IndexServer` are ours.
+of the request's bytes; `Front` passes requests on, and notes them; `static` and `nginx` serve a folder as files;
+`ChunkServer` and `IndexServer` are ours.
 """
 
 import contextlib
@@ -25,15 +26,17 @@ WAIT = 'wait'
 
 
 class Server:
-    """Takes connections one after the other, and hands each with its request to `answer(peer, method, path, body)`.
+    """Takes connections one after the other, or all at once, and hands each with its request to
+    `answer(peer, method, path, body)`.
 
     `asked` has the method and path of each request, and `heads` their bytes up to the empty line. Where an answer is
     `WAIT`, the connection stays open to the end. A request that isn't whole, or has more, and an answer that raises
     fail the `with`.
     """
 
-    def __init__(self, answer, host='127.0.0.1'):
+    def __init__(self, answer, host='127.0.0.1', at_once=False):
         self.answer = answer
+        self.at_once = at_once
         self.asked = []
         self.heads = []
         self.failures = []
@@ -63,17 +66,24 @@ class Server:
     def _serve(self):
         while True:
             peer, _ = self.listener.accept()
-            with peer:
-                if self.over.is_set():
-                    return
-                peer.settimeout(SECONDS)
-                try:
-                    self._connection(peer)
-                except OSError:
-                    # The program has hung up, as it may.
-                    pass
-                except Exception:
-                    self.failures.append(traceback.format_exc())
+            if self.over.is_set():
+                peer.close()
+                return
+            if self.at_once:
+                threading.Thread(target=self._take, args=(peer,), daemon=True).start()
+            else:
+                self._take(peer)
+
+    def _take(self, peer):
+        with peer:
+            peer.settimeout(SECONDS)
+            try:
+                self._connection(peer)
+            except OSError:
+                # The program has hung up, as it may.
+                pass
+            except Exception:
+                self.failures.append(traceback.format_exc())
 
     def _connection(self, peer):
         got = b''
@@ -99,6 +109,43 @@ class Server:
         self.heads.append(head)
         if self.answer(peer, method, path, body) == WAIT:
             self.over.wait()
+
+
+class Front(Server):
+    """Stands before another server, at this port: it passes on each GET and HEAD, and hands back what comes. Where the
+    other one isn't there or breaks off, so does this one.
+
+    `before` is called with the number of each request, from 0 on, before it is passed on. `given` has the paths of
+    whole replies of 200.
+    """
+
+    def __init__(self, port, before=lambda number: None):
+        super().__init__(self._pass_on, at_once=True)
+        self.behind = port
+        self.before = before
+        self.passed = 0
+        self.given = []
+        self.lock = threading.Lock()
+
+    def _pass_on(self, peer, method, path, _body):
+        with self.lock:
+            self.before(self.passed)
+            self.passed += 1
+        got = b''
+        with contextlib.suppress(OSError), socket.create_connection(('127.0.0.1', self.behind), SECONDS) as other:
+            other.sendall(f'{method} {path} HTTP/1.1\r\nHost: localhost\r\nConnection: close'.encode() + HEAD_END)
+            while piece := other.recv(65536):
+                got += piece
+        if got.startswith(b'HTTP/1.1 200 ') and is_whole(method, got):
+            self.given.append(path)
+        peer.sendall(got)
+
+
+def is_whole(method, got):
+    """Whether a reply that tells its length has all of its bytes."""
+    head, end, body = got.partition(HEAD_END)
+    told = re.search(rb'\r\nContent-Length: (\d+)', head)
+    return bool(end and told) and (method == 'HEAD' or len(body) == int(told[1]))
 
 
 @contextlib.contextmanager

@@ -23,7 +23,7 @@ OPTIONS = [('store', ['-s', '--store'], 'location'), ('sizes', ['-m', '--chunk-s
            ('repair', ['-r', '--repair'], None), ('yes', ['-y', '--yes'], None),
            ('listen', ['-l', '--listen'], 'address'), ('writable', ['-w', '--writeable'], None),
            ('digest', ['--digest'], 'digest'), ('offset', ['-o', '--offset'], 'bytes'),
-           ('length', ['-l', '--length'], 'bytes')]
+           ('length', ['-l', '--length'], 'bytes'), ('retries', ['-e', '--error-retry'], 'retries')]
 SPELLINGS = sorted({spelling for _, spellings, _ in OPTIONS for spelling in spellings})
 SPELLED = {option: spellings for option, spellings, _ in OPTIONS}
 VALUES = {option: value for option, _, value in OPTIONS if value}
@@ -34,22 +34,28 @@ LARGE = '536870912'
 # A command's options with the least and the greatest number of times, and its operands alike.
 N = {'workers': (0, 1)}
 D = {'digest': (0, 1)}
+E = {'retries': (0, 1)}
 COMMANDS = {
     'make': ({'store': (1, 1), 'sizes': (0, 1), **N, **D}, (2, 2)),
-    'extract': ({'store': (1, 16), 'seed': (0, 64), 'cache': (0, 1), 'in place': (0, 1), **N}, (2, 2)),
-    'cat': ({'store': (1, 16), 'offset': (0, 1), 'length': (0, 1)}, (1, 1)),
+    'extract': ({'store': (1, 16), 'seed': (0, 64), 'cache': (0, 1), 'in place': (0, 1), **N, **E},
+                (2, 2)),
+    'cat': ({'store': (1, 16), 'offset': (0, 1), 'length': (0, 1), **E}, (1, 1)),
     'verify-index': (N, (2, 2)),
     'chop': ({'store': (1, 1), **N}, (2, 2)),
-    'cache': ({'store': (1, 16), 'cache': (1, 1), **N}, (1, 64)),
+    'cache': ({'store': (1, 16), 'cache': (1, 1), **N, **E}, (1, 64)),
     'list-chunks': ({}, (1, 1)),
-    'info': ({'store': (0, 16)}, (1, 1)),
+    'info': ({'store': (0, 16), **E}, (1, 1)),
     'verify': ({'store': (1, 1), 'repair': (0, 1), **N, **D}, (0, 0)),
     'prune': ({'store': (1, 1), 'yes': (1, 1)}, (1, 64)),
-    'chunk-server': ({'store': (1, 1), 'listen': (1, 1), 'writable': (0, 1), **N, **D}, (0, 0)),
+    'chunk-server': ({'store': (1, 16), 'listen': (1, 1), 'writable': (0, 1), 'cache': (0, 1), **N, **D, **E},
+                     (0, 0)),
     'index-server': ({'store': (1, 1), 'listen': (1, 1), 'writable': (0, 1)}, (0, 0)),
     'demo': ({**N, **D}, (2, 2)),
 }
-FOLDERS_ALONE = ('verify', 'prune', 'chunk-server', 'index-server')
+FOLDERS_ALONE = ('verify', 'prune', 'index-server')
+# Whose locations may be groups, with `|` between the stores; chunk-server's only with a cache.
+GROUPING = ('extract', 'cat', 'cache', 'info', 'chunk-server')
+MOST_STORES = 16
 
 # How many of a command's operands are an INDEX, from the first on.
 INDEXES = {'make': 1, 'extract': 1, 'cat': 1, 'verify-index': 1, 'chop': 1, 'cache': 64, 'list-chunks': 1, 'info': 1,
@@ -62,10 +68,10 @@ INDEX_URLS = ['http://h/a.caibx', 'http://localhost:8080/a/b/', 'http://h/|']
 
 # Locations, and what each is.
 LOCATIONS = {'st': 'folder', 'a b': 'folder', '-s': 'folder', '--': 'folder', 'http:/h': 'folder', ':': 'folder',
-             'http://localhost': 'url', 'http://localhost:8080/a/b/': 'url', 'http://127.0.0.1/': 'url',
-             'https://h/': 'bad', 'ftp://h/': 'bad', 'http://u@h/': 'bad', 'http://u:p@h/': 'bad', 'http://h/?q': 'bad',
-             'http://h/#f': 'bad', 'http://h:x/': 'bad', 'http://': 'bad', '://': 'bad', 'a|b': 'bad',
-             'http://h/|': 'bad'}
+             'http://localhost': 'url', 'http://h/': 'url', 'http://localhost:8080/a/b/': 'url',
+             'http://127.0.0.1/': 'url', 'https://h/': 'bad', 'ftp://h/': 'bad', 'http://u@h/': 'bad',
+             'http://u:p@h/': 'bad', 'http://h/?q': 'bad', 'http://h/#f': 'bad', 'http://h:x/': 'bad', 'http://': 'bad',
+             '://': 'bad', 'a|b': 'bad', 'http://h/|': 'bad'}
 
 
 # The second reading
@@ -76,15 +82,34 @@ def number(word, least, most):
 
 def location(word):
     """What a location is: one of the list, or a word that isn't read as a URL."""
+    if '|' in word:
+        return 'bad'
     if word not in LOCATIONS:
         expect('://' not in word, f'{word} isn\'t on the list')
-        return 'bad' if '|' in word else 'folder'
+        return 'folder'
     return LOCATIONS[word]
 
 
-def why_not_value(command, option, word):
-    """Why the word can't be the option's value, by the first reason of the table."""
+def parts_of(values):
+    """The stores of several values of `-s`."""
+    return [part for value in values for part in value.split('|')]
+
+
+def why_no_group(word, before):
+    """Why the word can't be a group of stores behind these values."""
+    parts = parts_of([word])
+    if len(parts_of(before)) + len(parts) > MOST_STORES:
+        return 'TooMany'
+    if '' in parts:
+        return 'Empty'
+    return 'BadLocation' if 'bad' in map(location, parts) else None
+
+
+def why_not_value(command, option, word, before):
+    """Why the word can't be the option's value, behind its values before, by the first reason of the table."""
     kind = VALUES[option]
+    if kind == 'location' and command in GROUPING:
+        return why_no_group(word, before)
     if kind in ('location', 'folder', 'seed') and word == '':
         return 'Empty'
     if kind == 'location':
@@ -104,6 +129,8 @@ def why_not_value(command, option, word):
         return None if word in ('sha512-256', 'sha256') else 'BadDigest'
     if kind == 'bytes':
         return None if number(word, 0, (1 << 64) - 1) else 'BadNumber'
+    if kind == 'retries':
+        return None if number(word, 0, 16) else 'BadNumber'
     return None
 
 
@@ -140,11 +167,13 @@ class Faulty(Exception):
 
 
 class Said:
-    """What words say that are taken: the command, the values of each option in order, and the operands."""
+    """What words say that are taken: the command, the values of each option in order with its own places, and the
+    operands."""
 
     def __init__(self, command):
         self.command = command
         self.given = {option: [] for option in SPELLED}
+        self.places = {option: [] for option in SPELLED}
         self.operands = []
 
 
@@ -163,12 +192,13 @@ def read(words):
                 raise Faulty(place, 'UnknownOption')
             if len(said.given[option]) == takes[option][1]:
                 raise Faulty(place, 'TooMany')
+            said.places[option].append(place)
             value = None
             if option in VALUES:
                 place, value = next(rest, (None, None))
                 if place is None:
                     raise Faulty(len(words), 'NoValue')
-                why = why_not_value(said.command, option, value)
+                why = why_not_value(said.command, option, value, said.given[option])
                 if why:
                     raise Faulty(place, why)
             said.given[option].append(value)
@@ -177,12 +207,26 @@ def read(words):
             if why:
                 raise Faulty(place, why)
             said.operands.append(word)
+    if said.command == 'chunk-server' and not said.given['cache']:
+        judge_served(said)
     for missing, why in ((('store', 'cache', 'listen'), 'MissingOption'), (('yes',), 'NeedsYes')):
         if any(len(said.given[option]) < takes.get(option, (0, 0))[0] for option in missing):
             raise Faulty(len(words), why)
+    if said.command == 'chunk-server' and said.given['cache'] and said.given['writable']:
+        raise Faulty(len(words), 'ReadOnly')
     if len(said.operands) < least:
         raise Faulty(len(words), 'Operands')
     return said
+
+
+def judge_served(said):
+    """What is served without a cache is one folder, which isn't asked twice."""
+    further = said.places['store'][1:] + said.places['retries']
+    if further:
+        raise Faulty(min(further), 'TooMany')
+    for place, store in zip(said.places['store'], said.given['store']):
+        if '|' in store or location(store) == 'url':
+            raise Faulty(place + 1, 'NeedsFolder')
 
 
 def why_not_sizes(value):
@@ -206,7 +250,7 @@ def text_of(said):
     if said.command == 'demo':
         return ''
     if said.command in ('cache', 'verify', 'chunk-server', 'index-server'):
-        folders = [store for store in said.given['store'] if location(store) != 'url'] + said.given['cache']
+        folders = [store for store in parts_of(said.given['store']) if location(store) != 'url'] + said.given['cache']
         return f'{folders[0]}: no such folder'
     absent = said.operands[1 if said.command == 'make' else 0]
     return f'{absent}: no such file'
@@ -250,7 +294,7 @@ def agrees(words, folder):
 
 
 GOOD = {'location': 'st', 'sizes': '16:64:256', 'workers': '4', 'folder': 'near', 'seed': 'old.caibx',
-        'address': 'localhost:8080', 'digest': 'sha256', 'bytes': '7'}
+        'address': 'localhost:8080', 'digest': 'sha256', 'bytes': '7', 'retries': '3'}
 
 
 def fewest(command, but=()):
@@ -272,6 +316,8 @@ def tables(cases):
             for option, spellings in SPELLED.items():
                 value = [GOOD[VALUES[option]]] if option in VALUES else []
                 front, operands = fewest(command, but=[option])
+                if command == 'chunk-server' and option in ('store', 'retries'):
+                    front += ['-c', 'near']
                 least_times, times = takes.get(option, (0, 0))
                 for spelling in spellings:
                     if option_of(command, spelling) not in (None, option):
@@ -290,10 +336,14 @@ def tables(cases):
                 expect_equal(agrees(whole[0] + (least - 1) * ['7'], folder), 'Operands', 'an operand too few')
 
 
+RANDOM_GROUPS = ['st|a b', 'st|http://localhost', 'http://h/|st|:', 'st|', '|st', '|', 'st||a b', 'st|https://h/',
+                 'https://h/|', '|'.join(['st'] * 15), '|'.join(['st'] * 16), '|'.join(['st'] * 17), '|' * 16]
+
+
 def random_value(chance, option):
     kind = VALUES[option]
     if kind == 'location':
-        return chance.choice([*LOCATIONS, ''])
+        return chance.choice([*LOCATIONS, '', *RANDOM_GROUPS])
     if kind == 'sizes':
         part = ['0', '1', '16', '64', '256', '9999999', '10000000', '01', '', '-1', ' 1', 'x']
         count = chance.choice([3] * 8 + [1, 2, 4])
@@ -307,6 +357,8 @@ def random_value(chance, option):
         return chance.choice(['h:1', ':65535', '::1:80', 'h:0', 'h:65536', 'h', '', ':', 'h:080', 'h:1x', '-l:5'])
     if kind == 'digest':
         return chance.choice(['sha512-256', 'sha512/256', 'sha512', 'SHA256', 'sha-256', 'sha256 ', 'md5', '', '--'])
+    if kind == 'retries':
+        return chance.choice(['0', '16', '17', '-1', '', '01', '+1', 'x', '1 ', '4294967296', '--'])
     if kind == 'bytes':
         return chance.choice(['0', '7', '18446744073709551615', '18446744073709551616', '', '07', '+1', '-1', '--'])
     return chance.choice(['near', '', '--', '-c', '/a'])
@@ -353,14 +405,15 @@ def places_of_indexes(cases):
 
 def at_random(cases):
     told = Counter()
-    for round_number in range(20):
+    for round_number in range(40):
         with cases.case(f'random words, round {round_number}') as folder:
             chance = random.Random(f'words {round_number}')
             for _ in range(100):
                 told[agrees(random_words(chance), folder)] += 1
     with cases.case('the random words had each fault, and some were taken'):
         for why in ('taken', 'UnknownOption', 'TooMany', 'NoValue', 'Empty', 'BadNumber', 'BadSizes', 'BadLocation',
-                    'NeedsFolder', 'BadSeed', 'BadListen', 'BadDigest', 'MissingOption', 'NeedsYes', 'Operands'):
+                    'NeedsFolder', 'BadSeed', 'BadListen', 'BadDigest', 'MissingOption', 'NeedsYes', 'ReadOnly',
+                    'Operands'):
             expect(told[why] > 4, f'{why} came {told[why]} times')
 
 
