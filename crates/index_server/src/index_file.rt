@@ -22,7 +22,7 @@ use std::marker::Model;
 const FIRST_READ: usize = 262_144;
 
 /// How much longer the room for a file becomes where that has more bytes: 1 MiB. A folder of the operating system tells
-/// this by the file's size, and reads nothing: so the room becomes no longer than is needed, and the file is read once.
+/// this by the file's size, and reads nothing: so the room becomes hardly longer than the file, which is read once.
 const STEP: usize = 1_048_576;
 
 // A buffer of this size.
@@ -32,19 +32,27 @@ fn buffer_of(alloc: Global, size: usize) -> Result<Vec<u8>, AllocError>
     vec![in alloc; 0u8; size]
 }
 
-// Makes the buffer longer.
-fn grow(buffer: &mut Vec<u8>) -> Result<(), AllocError>
+// Makes the buffer longer. `resize` would take longer, since it fills byte by byte.
+fn grow(alloc: Global, buffer: &mut Vec<u8>) -> Result<(), AllocError>
     requires room { length buffer.old.items < file_limit }
     ensures ok { OnOk result (length buffer.old.items < length buffer.new.items) }
     ensures room { length buffer.new.items ≤ file_limit }
 {
-    let size = (buffer.len() + STEP).min(FILE_LIMIT as usize);
-    buffer.resize(size, 0)
+    let size = STEP.min(FILE_LIMIT as usize - buffer.len());
+    match buffer_of(alloc, size) {
+        Ok(mut more) => buffer.append(&mut more),
+        Err(refused) => Err(refused),
+    }
 }
 
 // Reads the file of this name to the front of the buffer, which becomes as long as is needed. `Longer`: it has more
 // bytes than the longest index file.
-fn read_whole<F: Look>(folder: &mut F, name: &str, buffer: &mut Vec<u8>) -> Result<usize, FileFault>
+fn read_whole<F: Look>(
+    alloc: Global,
+    folder: &mut F,
+    name: &str,
+    buffer: &mut Vec<u8>,
+) -> Result<usize, FileFault>
     requires first { first_read ≤ length buffer.old.items }
     requires room { length buffer.old.items ≤ file_limit }
     ensures room { length buffer.new.items ≤ file_limit }
@@ -59,12 +67,12 @@ fn read_whole<F: Look>(folder: &mut F, name: &str, buffer: &mut Vec<u8>) -> Resu
     ensures place { F.place folder.new ≡ F.place folder.old }
     ensures faults { CountsCause FileFault.Failed (F.faults folder.old) (F.faults folder.new) result }
 {
-    while buffer.len() < FILE_LIMIT as usize {
+    'rooms: while buffer.len() < FILE_LIMIT as usize {
         match folder.read(name, buffer.as_mut_slice()) {
             Err(FileFault::Longer) => {}
             answer => return answer,
         }
-        match grow(buffer) {
+        match grow(alloc, buffer) {
             Ok(()) => {}
             Err(_) => return Err(FileFault::Memory),
         }
@@ -143,7 +151,7 @@ impl IndexFile {
         let Ok(mut bytes) = buffer_of(alloc, FIRST_READ) else {
             return Err(IoFault::Memory);
         };
-        match read_whole(folder, name, &mut bytes) {
+        match read_whole(alloc, folder, name, &mut bytes) {
             Ok(n) => {
                 bytes.truncate(n);
                 IndexFile::of(alloc, bytes)

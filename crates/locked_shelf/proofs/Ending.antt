@@ -61,5 +61,8 @@ module _ (kind : DigestKind) (may : Act → List ℕ → Answer → Type 0) (wri
       ended_as (λ x y. Cut kind may writable x old y new) (IsBrokenOff kind may writable) (λ x y a b c cut. broken_off x y cut.0 new a b c cut.1) t u is_fresh same h,
     )
 
-    pub ends_lacking : IfSome t.traffic (λ x. IfSome u.traffic (λ y. Lacking kind may writable x old y new)) → HasEndedSo kind may writable true u
-    ends_lacking h = ended_as (λ x y. Lacking kind may writable x old y new) (IsBrokenOff kind may writable) (λ x y a b c lacks. broken_off x y lacks.0 lacks.1 a b c lacks.2) t u is_fresh same h
+    pub ends_lacking : u.faults ≡ t.faults → IfSome t.traffic (λ x. IfSome u.traffic (λ y. Lacking kind may writable x old y new)) → HasEndedSo kind may writable true u
+    ends_lacking unfailed h = (
+      unfailed ∙ is_fresh.unfailed,
+      ended_as (λ x y. Lacking kind may writable x old y new) (IsBrokenOff kind may writable) (λ x y a b c lacks. broken_off x y lacks.0 lacks.1 a b c lacks.2) t u is_fresh same h,
+    )

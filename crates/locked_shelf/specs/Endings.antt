@@ -33,10 +33,10 @@ module _ (kind : DigestKind) (may : Act → List ℕ → Answer → Type 0) (wri
     pub sent : SendsMost turns t.sent
 
   -- a connection has ended: all was answered, or a call on it has failed and it was broken off, or, where `lacking` is
-  -- true, there was no memory for it
+  -- true, no call on it has failed and there was no memory for it
   abbrev pub HasEndedSo : Bool → LinkState → Type 0
   HasEndedSo false l = IfSome l.traffic IsAnswered ⊎ (Rose 0 l.faults × IfSome l.traffic IsBrokenOff)
-  HasEndedSo true l = IfSome l.traffic IsBrokenOff
+  HasEndedSo true l = (l.faults ≡ 0) × IfSome l.traffic IsBrokenOff
 
 -- the same over a folder whose type names the digest of its chunks, and the files that it began with. The bytes are
 -- told exactly where `tells` is true

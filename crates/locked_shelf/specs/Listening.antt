@@ -1,5 +1,5 @@
 -- Listeners, and how they change while connections are taken and given back.
-use Rattle.std.specs.Prelude.{◌≡◌, ℕ, ◌+◌, ◌≤◌, ◌⊎◌, ◌++◌, Bool, true, false, List, [], length, drop, IfSome, Some, All}
+use Rattle.std.specs.Prelude.{◌≡◌, ◌≢◌, ℕ, ◌+◌, ◌≤◌, ◌⊎◌, ◌++◌, Bool, true, false, List, [], length, drop, IfSome, Some, All}
 use Rattle.std.specs.Option.{option_map}
 use Rattle.dsy_base.specs.Counts.{Rose}
 use Rattle.dsy_base.specs.Links.{LinkState, ListenState}
@@ -37,6 +37,7 @@ pub record HasHeard
   pub heard : IsServing ends old new tally.pending tally.lacking
   pub end : served ≡ all.Ended → new.coming ≡ Some []
   pub cause : served ≡ all.ListenFault → Rose old.faults new.faults
+  pub unfailed : served ≢ all.ListenFault → new.faults ≡ old.faults
 
 -- as many have ended as were taken, and each of them well
 pub record ServesAll (ends : Bool → LinkState → Type 0) (old new : ListenState) : Type 0 where

@@ -1,6 +1,6 @@
 //! What stands behind a shelf's lock: a folder of chunks that has kept what its type names.
 
-ghost use Rattle.std.specs.Prelude.{◌≡◌, ◌≤◌, length, IfOk, IfSome, Some};
+ghost use Rattle.std.specs.Prelude.{◌≡◌, ◌≤◌, length, IfOk, IfSome, OnErr, Some};
 ghost use Rattle.chunk_server.specs.Shelves.{IsAnswer, answer_in};
 ghost use Rattle.chunk_store.specs.Kinds.{kind_named};
 ghost use Rattle.chunk_store.specs.Names.{name_of};
@@ -73,6 +73,7 @@ impl<F: Folder> Kept<F> {
         ensures only { IfOk result (λ r. IsAnswer (kind_named F.kind) (act.Put id.now) (answer_in r)) }
         ensures may { IfOk result (λ r. MayReply (kind_named F.kind) F.opening F.never_fails (act.Put id.now) body.now
             (answer_in r)) }
+        ensures unfailed { OnErr result (F.faults self.new.folder ≡ F.faults self.old.folder) }
     {
         id_has_32_bytes(id);
         chunk_names();

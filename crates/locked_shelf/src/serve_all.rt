@@ -33,8 +33,10 @@ pub enum AllServed {
     Ended,
     /// A call on the listener has failed.
     ListenFault,
-    /// There was no memory.
+    /// There was no memory to take a connection.
     Memory,
+    /// There was no memory for a connection that was taken. A call on the listener may have failed too.
+    Short,
 }
 
 // Serves a connection to its end, and leaves it with those that have ended.
@@ -195,18 +197,19 @@ where
     L::Link: Send,
     requires mode { shelf.now.writable ≡ M.writable }
     ensures end { result ≡ AllServed.Ended → (L.state listen.new).coming ≡ Some [] }
-    ensures served { result ≢ AllServed.Memory →
+    ensures served { result ≢ AllServed.Short → result ≢ AllServed.Memory →
         ServesAll (EndsOver (kind_named F.kind) F.opening F.never_fails M.writable L.Link.tells)
         (L.state listen.old) (L.state listen.new) }
     ensures lacking { ServesSome (EndsOver (kind_named F.kind) F.opening F.never_fails M.writable L.Link.tells)
         (L.state listen.old) (L.state listen.new) }
     ensures cause { result ≡ AllServed.ListenFault → Rose (L.state listen.old).faults (L.state listen.new).faults }
+    ensures unfailed { result ≡ AllServed.Memory → (L.state listen.new).faults ≡ (L.state listen.old).faults }
     ensures faults { (L.state listen.old).faults ≤ (L.state listen.new).faults }
 {
     let gathering: Gathering<L::Link, F, M> = Gathering::new(alloc);
     let (served, tally) = serve_scoped(rt, alloc, listen, shelf, &gathering, one_by_one);
     if tally.lacking || tally.pending > 0 {
-        AllServed::Memory
+        AllServed::Short
     } else {
         served
     }
@@ -224,12 +227,13 @@ pub fn serve_all<L: Listen, F: Folder + Send, R: Threads + Wait + Sync>(
 where
     L::Link: Send,
     ensures end { result ≡ AllServed.Ended → (L.state listen.new).coming ≡ Some [] }
-    ensures served { result ≢ AllServed.Memory →
+    ensures served { result ≢ AllServed.Short → result ≢ AllServed.Memory →
         ServesAll (EndsOver (kind_named F.kind) F.opening F.never_fails shelf.now.writable L.Link.tells)
         (L.state listen.old) (L.state listen.new) }
     ensures lacking { ServesSome (EndsOver (kind_named F.kind) F.opening F.never_fails shelf.now.writable L.Link.tells)
         (L.state listen.old) (L.state listen.new) }
     ensures cause { result ≡ AllServed.ListenFault → Rose (L.state listen.old).faults (L.state listen.new).faults }
+    ensures unfailed { result ≡ AllServed.Memory → (L.state listen.new).faults ≡ (L.state listen.old).faults }
     ensures faults { (L.state listen.old).faults ≤ (L.state listen.new).faults }
 {
     serve_by::<L, F, Brand, R>(rt, alloc, listen, shelf, one_by_one)

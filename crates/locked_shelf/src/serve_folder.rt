@@ -45,12 +45,13 @@ where
     ensures kept { IfSome N.opening (λ first. KeepsOpening (kind_named N.kind) first (F.files result.0)) }
     ensures place { F.place result.0 ≡ N.place }
     ensures end { result.1 ≡ AllServed.Ended → (L.state listen.new).coming ≡ Some [] }
-    ensures served { result.1 ≢ AllServed.Memory →
+    ensures served { result.1 ≢ AllServed.Short → result.1 ≢ AllServed.Memory →
         ServesAll (EndsOver (kind_named N.kind) N.opening F.never_fails rules.writable L.Link.tells)
         (L.state listen.old) (L.state listen.new) }
     ensures lacking { ServesSome (EndsOver (kind_named N.kind) N.opening F.never_fails rules.writable L.Link.tells)
         (L.state listen.old) (L.state listen.new) }
     ensures cause { result.1 ≡ AllServed.ListenFault → Rose (L.state listen.old).faults (L.state listen.new).faults }
+    ensures unfailed { result.1 ≡ AllServed.Memory → (L.state listen.new).faults ≡ (L.state listen.old).faults }
     ensures faults { (L.state listen.old).faults ≤ (L.state listen.new).faults }
 {
     let named: NamedFolder<F, N> = NamedFolder::new(folder);
@@ -80,12 +81,13 @@ where
     ensures kept { IfSome (F.files folder) (λ first. KeepsOpening rules.kind first (F.files result.0)) }
     ensures place { F.place result.0 ≡ F.place folder }
     ensures end { result.1 ≡ AllServed.Ended → (L.state listen.new).coming ≡ Some [] }
-    ensures served { result.1 ≢ AllServed.Memory →
+    ensures served { result.1 ≢ AllServed.Short → result.1 ≢ AllServed.Memory →
         ServesAll (EndsOver rules.kind (F.files folder) F.never_fails rules.writable L.Link.tells)
         (L.state listen.old) (L.state listen.new) }
     ensures lacking { ServesSome (EndsOver rules.kind (F.files folder) F.never_fails rules.writable L.Link.tells)
         (L.state listen.old) (L.state listen.new) }
     ensures cause { result.1 ≡ AllServed.ListenFault → Rose (L.state listen.old).faults (L.state listen.new).faults }
+    ensures unfailed { result.1 ≡ AllServed.Memory → (L.state listen.new).faults ≡ (L.state listen.old).faults }
 {
     match listen.bind(host, port) {
         Ok(()) => serve_named::<L, F, Brand, R>(rt, alloc, listen, folder, rules),

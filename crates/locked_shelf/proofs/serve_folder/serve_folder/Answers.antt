@@ -23,10 +23,10 @@ returns-in-Ok-clause-kept g c =
     subst (λ (k : DigestKind). IfSome (g.F.Look.files c.args.folder) (λ first. KeepsOpening k first (g.F.Look.files c.serve_named.result.0))) (numbered c.args.rules.kind) c.serve_named.ensures.kept
 
 pub returns-in-Ok-clause-served : goal.returns-in-Ok-clause-served
-returns-in-Ok-clause-served g c = λ h.
+returns-in-Ok-clause-served g c = λ h k.
     let state = g.L.Listen.state in
     let ends : DigestKind → Bool → LinkState → Type 0 = λ k. EndsOver k (g.F.Look.files c.args.folder) g.F.Look.never_fails c.args.rules.writable g.L.Link.Link.tells in
-    let all = subst (λ (k : DigestKind). ServesAll (ends k) (state c.bind.new.self) (state c.serve_named.new.listen)) (numbered c.args.rules.kind) (c.serve_named.ensures.served h) in
+    let all = subst (λ (j : DigestKind). ServesAll (ends j) (state c.bind.new.self) (state c.serve_named.new.listen)) (numbered c.args.rules.kind) (c.serve_named.ensures.served h k) in
     serves_all_later (ends c.args.rules.kind) (state c.args.listen.now) (state c.bind.new.self) c.bind.ensures.coming c.bind.ensures.ended (state c.serve_named.new.listen) all
 
 pub returns-in-Ok-clause-lacking : goal.returns-in-Ok-clause-lacking
@@ -40,7 +40,7 @@ pub returns-in-Err-Failed-clause-kept : goal.returns-in-Err-Failed-clause-kept
 returns-in-Err-Failed-clause-kept g c = kept_self c.args.rules.kind (g.F.Look.files c.args.folder)
 
 pub returns-in-Err-Failed-clause-served : goal.returns-in-Err-Failed-clause-served
-returns-in-Err-Failed-clause-served g c = λ h.
+returns-in-Err-Failed-clause-served g c = λ h k.
     serves_all_still (EndsOver c.args.rules.kind (g.F.Look.files c.args.folder) g.F.Look.never_fails c.args.rules.writable g.L.Link.Link.tells) (g.L.Listen.state c.args.listen.now) (g.L.Listen.state c.bind.new.self) c.bind.ensures.coming c.bind.ensures.ended
 
 pub returns-in-Err-Failed-clause-lacking : goal.returns-in-Err-Failed-clause-lacking
