@@ -779,7 +779,6 @@ def examples(cases, shim):
             with cases.case(f'{given} where x {kinds[0]} and y {kinds[1]}, -n {count}') as folder:
                 lay(folder, x=kinds[0], y=kinds[1])
                 ended = program.run(['extract', '-k', '-n', str(count), *given, 'a.caibx', 'o'], folder)
-                # The place of the value is one after `-s`.
                 expect_ended(ended, text)
                 wanted = b'abc' if text == '' else None if 'Empty' in text else bytes(3)
                 expect_equal(file_bytes(os.path.join(folder, 'o')), wanted, 'o')
@@ -790,8 +789,7 @@ def examples(cases, shim):
 
 
 def fails_first(folder, given, shim, lay):
-    """Runs the words, where the first opening of the chunk's file in `x` fails, and once more where that is the only
-    one of its passes, and the second fails too."""
+    """Runs the words where the first opening of the chunk's file in `x` fails."""
     for at in range(200):
         place = os.path.join(folder, str(at))
         os.mkdir(place)
