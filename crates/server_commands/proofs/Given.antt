@@ -25,7 +25,7 @@ module _ {R : Type 0} (p : Protocol R (Map (List ℕ))) (h : Heard) (q : List �
   }
 
   pub serving_ends : (r : Result Unit IoFault) → OnOk r (h.new.coming ≡ Some []) → OnOk r (Listens p h.old h.new first left) → (r ≡ Err io.Failed → Rose h.old.faults h.new.faults × Listens p h.old h.new first left)
-      → (r ≡ Err io.Memory → RunsOut p h.old h.new first left) → FolderServed h q held (ServesInTurn p h) (ServesInTurnShort p h) d (answer_of_serving r) e
+      → (r ≡ Err io.Memory → RunsOut p h.old h.new first left × (h.new.faults ≡ h.old.faults)) → FolderServed h q held (ServesInTurn p h) (ServesInTurnShort p h) d (answer_of_serving r) e
   serving_ends (Ok u) over all failed lacking = ((over, back_as (ServesInTurn p h) all), gives_adds d e q left.faults given)
   serving_ends (Err io.Failed) over all failed lacking = (((failed refl).0, back_as (ServesInTurn p h) (failed refl).1), gives_adds d e q left.faults given)
   serving_ends (Err io.Memory) over all failed lacking = (back_as (ServesInTurnShort p h) (lacking refl), gives_adds d e q left.faults given)
@@ -34,4 +34,4 @@ module _ {R : Type 0} (p : Protocol R (Map (List ℕ))) (h : Heard) (q : List �
 pub unserved : {R : Type 0} (p : Protocol R (Map (List ℕ))) (never_fails : Bool) (l : ListenState) (q : List ℕ) (held : Option (Map (List ℕ))) (left : ServedState (Map (List ℕ))) → left ≡ fresh held → (d e : Disk) → GivesFolder d e q left.faults
     → e.folders ≡ option_map (λ m. at_name m q left.files) d.folders → FolderServed (heard never_fails l l) q held (ServesInTurn p (heard never_fails l l)) (ServesInTurnShort p (heard never_fails l l)) d (Err ends.Memory) e
 unserved p never_fails l q held left taken d e given back =
-    (record { left = left; back = back; counted = given.folder_counts.added; serving = inl (listens_none p l l (fresh held) left (idle_self l) taken) }, gives_adds d e q left.faults given)
+    (record { left = left; back = back; counted = given.folder_counts.added; serving = (inl (listens_none p l l (fresh held) left (idle_self l) taken), refl) }, gives_adds d e q left.faults given)

@@ -145,8 +145,8 @@ module _ {R M : Type 0} (p : Protocol R M) (l k m : ListenState) (t u : LinkStat
   pub hears_cut : Rose t.faults u.faults → IfSome t.traffic (λ x. IfSome u.traffic (λ y. Cut p x old y new)) → Hears (IsServed p) l m old new
   hears_cut rose h = ends_as (Cut p) served_so (IsServed p) (λ x r. r) (λ x y s. inr (subst (λ (n : ℕ). Rose n u.faults) is_fresh.unfailed rose, s)) h
 
-  pub hears_lacking : IfSome t.traffic (λ x. IfSome u.traffic (λ y. Lacking p x old y new)) → Hears (LacksMemory p) l m old new
-  hears_lacking h = ends_as (Lacking p) (λ x y failed. Lacking p x old y new) (LacksMemory p) (λ x r. r) (λ x y s. s) h
+  pub hears_lacking : u.faults ≡ t.faults → IfSome t.traffic (λ x. IfSome u.traffic (λ y. Lacking p x old y new)) → Hears (LacksMemory p) l m old new
+  hears_lacking unfailed h = ends_as (Lacking p) (λ x y failed. (failed ≡ 0) × Lacking p x old y new) (LacksMemory p) (λ x r. r) (λ x y s. (unfailed ∙ is_fresh.unfailed, s)) h
 
 -- ---- in the turns of a loop
 

@@ -26,8 +26,9 @@ module _ {F : Type 0} (files : F → Option (Map (List ℕ))) (faults : F → �
     serving = record { tells = tells; told = told; kept = kept; served = served };
   }
 
-  pub sharing_ends : (r : AllServed) → (r ≡ shared.Ended → h.new.coming ≡ Some []) → (r ≢ shared.Memory → ServesAll (EndsOver kind held h.never_fails writable tells) h.old h.new) → ServesSome (EndsOver kind held h.never_fails writable tells) h.old h.new
+  pub sharing_ends : (r : AllServed) → (r ≡ shared.Ended → h.new.coming ≡ Some []) → (r ≢ shared.Short → r ≢ shared.Memory → ServesAll (EndsOver kind held h.never_fails writable tells) h.old h.new) → ServesSome (EndsOver kind held h.never_fails writable tells) h.old h.new
       → (r ≡ shared.ListenFault → Rose h.old.faults h.new.faults) → ChunksServed kind false h writable q held d (answer_of_sharing r) e
-  sharing_ends shared.Ended over all some cause = ((over refl, shared_back ServesAll (all (λ x. absurd (cc)))), gives_adds d e q (faults folder) given)
-  sharing_ends shared.ListenFault over all some cause = ((cause refl, shared_back ServesAll (all (λ x. absurd (cc)))), gives_adds d e q (faults folder) given)
+  sharing_ends shared.Ended over all some cause = ((over refl, shared_back ServesAll (all (λ x. absurd (cc)) (λ x. absurd (cc)))), gives_adds d e q (faults folder) given)
+  sharing_ends shared.ListenFault over all some cause = ((cause refl, shared_back ServesAll (all (λ x. absurd (cc)) (λ x. absurd (cc)))), gives_adds d e q (faults folder) given)
   sharing_ends shared.Memory over all some cause = (shared_back ServesSome some, gives_adds d e q (faults folder) given)
+  sharing_ends shared.Short over all some cause = (shared_back ServesSome some, gives_adds d e q (faults folder) given)

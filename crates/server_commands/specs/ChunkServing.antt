@@ -47,6 +47,7 @@ abbrev pub answer_of_sharing : AllServed → Result Unit Outcome
 answer_of_sharing shared.Ended = Ok tt
 answer_of_sharing shared.ListenFault = Err ends.ListenFault
 answer_of_sharing shared.Memory = Err ends.Memory
+answer_of_sharing shared.Short = Err ends.Memory
 
 -- how the connections were served: one after the other where `in_turn` is true
 abbrev pub ServesChunks : DigestKind → Bool → Heard → Bool → FolderServing

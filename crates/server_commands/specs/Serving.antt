@@ -46,9 +46,9 @@ abbrev pub IsServed : {R M : Type 0} → Protocol R M → Serves M
 IsServed p t old u new =
     ConnectionEnded (λ x failed. Served p t old x new ⊎ (Rose 0 failed × Cut p t old x new)) t u
 
--- there was no memory for it
+-- there was no memory for it, and no call on it has failed
 abbrev pub LacksMemory : {R M : Type 0} → Protocol R M → Serves M
-LacksMemory p t old u new = ConnectionEnded (λ x failed. Lacking p t old x new) t u
+LacksMemory p t old u new = ConnectionEnded (λ x failed. (failed ≡ 0) × Lacking p t old x new) t u
 
 -- these connections came and ended so, each served from what the one before it left
 unfoldable pub AreServed
@@ -144,6 +144,6 @@ TakenUnheard h q d (Err o) e = StoreTaken [] q d (Err o) e × (h.new ≡ h.old)
 abbrev pub ServesInTurn : {R : Type 0} → Protocol R (Map (List ℕ)) → Heard → FolderServing
 ServesInTurn p h old new = Listens p h.old h.new old new
 
--- and how, if there was no memory
+-- and how, if there was no memory: then no call on the listener has failed
 abbrev pub ServesInTurnShort : {R : Type 0} → Protocol R (Map (List ℕ)) → Heard → FolderServing
-ServesInTurnShort p h old new = RunsOut p h.old h.new old new
+ServesInTurnShort p h old new = RunsOut p h.old h.new old new × (h.new.faults ≡ h.old.faults)

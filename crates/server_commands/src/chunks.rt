@@ -81,6 +81,7 @@ fn all_ended(served: AllServed) -> Result<(), Outcome>
         AllServed::Ended => Ok(()),
         AllServed::ListenFault => Err(Outcome::ListenFault),
         AllServed::Memory => Err(Outcome::Memory),
+        AllServed::Short => Err(Outcome::Memory),
     }
 }
 

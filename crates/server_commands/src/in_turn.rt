@@ -1,6 +1,6 @@
 //! Connections that come at an address are served one after the other, whatever is asked for on them.
 
-ghost use Rattle.std.specs.Prelude.{◌≡◌, ◌≤◌, ◌⊎◌, [], false, true, Ok, Err, OnOk, Some};
+ghost use Rattle.std.specs.Prelude.{◌≡◌, ◌≢◌, ◌≤◌, ◌⊎◌, [], false, true, Ok, Err, OnOk, Some};
 ghost use Rattle.dsy_base.specs.Counts.{Rose};
 ghost use Rattle.server_commands.specs.Serving.{Hears, IsIdle, IsServed, LacksMemory, Listens, RunsOut};
 ghost use Rattle.server_commands.specs.Serving.{answer_of_serving};
@@ -30,6 +30,7 @@ fn serve_next<L: Listen, S: Service>(
         (IsIdle (L.state listen.old) (L.state listen.new) × (S.state desk.new ≡ S.state desk.old))
         ⊎ Hears (LacksMemory (S.protocol (S.setting desk.old))) (L.state listen.old) (L.state listen.new)
         (S.state desk.old) (S.state desk.new) }
+    ensures unfailed { result ≢ Err IoFault.Failed → (L.state listen.new).faults ≡ (L.state listen.old).faults }
     ensures kept { S.setting desk.new ≡ S.setting desk.old }
     ensures faults { (L.state listen.old).faults ≤ (L.state listen.new).faults }
 {
@@ -63,6 +64,7 @@ pub(crate) fn serve_in_turn<L: Listen, S: Service>(
     ensures lacking { result ≡ Err IoFault.Memory →
         RunsOut (S.protocol (S.setting desk.old)) (L.state listen.old) (L.state listen.new)
         (S.state desk.old) (S.state desk.new) }
+    ensures unfailed { result ≡ Err IoFault.Memory → (L.state listen.new).faults ≡ (L.state listen.old).faults }
     ensures kept { S.setting desk.new ≡ S.setting desk.old }
 {
     listen.bind(address.host.as_str(), address.port)?;

@@ -39,4 +39,4 @@ returns g c =
     let counts = subst (λ f. GivesFolder d e q (D.faults f)) given c.give_folder-2.ensures.counts in
     let folders = subst (λ f. e.folders ≡ option_map (λ m. at_name m q (D.files f)) d.folders) given c.give_folder-2.ensures.folders in
     subst (λ (r : Result Unit Outcome). ChunksServed kind true h writable q held d r e) (sym c.ended.ensures)
-    (rw (sym (ap (λ s. s.kind) is), sym (ap (λ s. s.writable) is)) (serving_ends (chunk_protocol old.kind old.writable) h q held (shelved D.files D.faults old.folder) left first d e counts folders c.serve_in_turn-served.result serve.end serve.served serve.failed serve.lacking))
+    (rw (sym (ap (λ s. s.kind) is), sym (ap (λ s. s.writable) is)) (serving_ends (chunk_protocol old.kind old.writable) h q held (shelved D.files D.faults old.folder) left first d e counts folders c.serve_in_turn-served.result serve.end serve.served serve.failed (λ x. (serve.lacking x, serve.unfailed x))))

@@ -33,7 +33,7 @@ returns g c =
     let r = c.serve_folder-folder.result.1 in
     let same = c.into_inner.ensures in
     let kept = subst (λ f. IfSome (D.files f) (λ first. KeepsOpening kind first (D.files folder))) same serve.kept in
-    let served = subst (λ f. r ≢ shared.Memory → ServesAll (EndsOver kind (D.files f) D.never_fails writable g.L.Link.Link.tells) h.old h.new) same serve.served in
+    let served = subst (λ f. r ≢ shared.Short → r ≢ shared.Memory → ServesAll (EndsOver kind (D.files f) D.never_fails writable g.L.Link.Link.tells) h.old h.new) same serve.served in
     let lacking = subst (λ f. ServesSome (EndsOver kind (D.files f) D.never_fails writable g.L.Link.Link.tells) h.old h.new) same serve.lacking in
     subst (λ (o : Result Unit Outcome). ChunksServed kind false h writable q held d o e) (sym c.all_ended.ensures)
     (sharing_ends D.files D.faults kind h writable q held folder d e counts folders g.L.Link.Link.tells tells kept r serve.end served lacking serve.cause)

@@ -26,6 +26,7 @@ links-init g c =
     record {
       kept = refl;
       faults = c.bind.ensures.faults.never_falls;
+      unfailed = search rules;
       listens = listens_none (g.S.Service.protocol (g.S.Service.setting c.args.desk.now)) (state c.args.listen.now) (state c.bind.new.self) old old (record { coming = c.bind.ensures.coming; ended = c.bind.ensures.ended }) refl;
     }
 
@@ -39,6 +40,7 @@ links-preserved g c =
     record {
       kept = next.kept ∙ now.kept;
       faults = omega (arith, next.faults, now.faults);
+      unfailed = c.in-Ok-true.ensures.unfailed (λ e. absurd (cc)) ∙ now.unfailed;
       listens = listens_more (g.S.Service.protocol (setting c.args.desk.now)) (state c.args.listen.now) (state c.links.listen) (state c.serve_next.new.listen) (desk c.args.desk.now) (desk c.links.desk) (desk c.serve_next.new.desk) now.listens
           (served_as g.S.Service.protocol (setting c.args.desk.now) (setting c.links.desk) now.kept (state c.links.listen) (state c.serve_next.new.listen) (desk c.links.desk) (desk c.serve_next.new.desk) (next.served (c.in-Ok-true.is ∙ ap Ok c.in-Ok-true.field-0-test)));
     }
