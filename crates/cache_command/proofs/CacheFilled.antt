@@ -144,29 +144,36 @@ module _ (a b : Evidence) (held : (fs : List (Map (List ℕ))) → b.holds fs �
   pub done_wider : (l : Listing) (x y : Option (Map (List ℕ))) → IndexFilled a l x y (Ok tt) → IndexFilled b l x y (Ok tt)
   done_wider l x y h = record { added = added_wider l x y h.added; holds = h.holds; exactly = exactly_wider l x (Ok tt) h.exactly; order = tt }
 
-  module _ (refuse : (c : Query) (r : Refused) → a.refused c r → b.refused c r) (cache : a.cache_failed → b.cache_failed) where
-    lost_wider : (l : Listing) (y : Option (Map (List ℕ))) (k : ℕ) (id : ChunkId) (r : Refused) → IsNotHad a l y k id r → IsNotHad b l y k id r
-    lost_wider l y k id r h = record {
+  -- what the one refuses for a reason, the other refuses for another one, which names a store by another number. It is
+  -- the same where all stores are folders
+  module _ (N : Refused → Refused → Type 0) (refuse : (c : Query) (r n : Refused) → N r n → a.refused c r → b.refused c n) (none : N refused.Missing refused.Missing) (same : (fs : List (Map (List ℕ))) → b.holds fs → (r n : Refused) → N r n → n ≡ r)
+      (cache : a.cache_failed → b.cache_failed) where
+    lost_wider : (l : Listing) (y : Option (Map (List ℕ))) (k : ℕ) (id : ChunkId) (r n : Refused) → N r n → IsNotHad a l y k id r → IsNotHad b l y k id n
+    lost_wider l y k id r n is h = record {
       id_is = h.id_is;
-      cache = if_told (option_map chunks y) (λ m. GivesEntry l k m → b.cache_failed) (λ m is gives. cache (of_told (option_map chunks y) (λ m. GivesEntry l k m → a.cache_failed) m is h.cache gives));
-      said = refuse _ r h.said;
-      lacks = λ fs told. h.lacks fs (held fs told);
+      cache = if_told (option_map chunks y) (λ m. GivesEntry l k m → b.cache_failed) (λ m held_is gives. cache (of_told (option_map chunks y) (λ m. GivesEntry l k m → a.cache_failed) m held_is h.cache gives));
+      said = refuse _ r n is h.said;
+      lacks = λ fs told. subst (λ (x : Refused). LacksAll (entry_want l k id) (map chunks fs) x) (sym (same fs told r n is)) (h.lacks fs (held fs told));
     }
 
-    tells_wider : (l : Listing) (y : Option (Map (List ℕ))) (k : ℕ) (fault : FillFault) → FillTells a l y k fault → FillTells b l y k fault
-    tells_wider l y k (faults.Missing e id) h = (h.0, lost_wider l y k id refused.Missing h.1)
-    tells_wider l y k (faults.Damaged e id s x) h = (h.0, lost_wider l y k id (refused.Damaged s x) h.1)
-    tells_wider l y k (faults.StoreFault s) h = (h.0, lost_wider l y k h.0 (refused.StoreFault s) h.1)
-    tells_wider l y k faults.CacheFault h = (cache h.0, λ fs told. h.1 fs (held fs told))
-    tells_wider l y k faults.Memory h = tt
+    tells_wider : (l : Listing) (y : Option (Map (List ℕ))) (k : ℕ) (f g : FillFault) → IsFaultAs N f g → FillTells a l y k f → FillTells b l y k g
+    tells_wider l y k (faults.Missing e id) g is h = subst (FillTells b l y k) (sym is) (h.0, lost_wider l y k id refused.Missing refused.Missing none h.1)
+    tells_wider l y k (faults.Damaged e id s x) g (t, is, as) h = subst (FillTells b l y k) (sym as) (h.0, lost_wider l y k id (refused.Damaged s x) (refused.Damaged t x) is h.1)
+    tells_wider l y k (faults.StoreFault s) g (t, is, as) h = subst (FillTells b l y k) (sym as) (h.0, lost_wider l y k h.0 (refused.StoreFault s) (refused.StoreFault t) is h.1)
+    tells_wider l y k faults.CacheFault g is h = subst (FillTells b l y k) (sym is) (cache h.0, λ fs told. h.1 fs (held fs told))
+    tells_wider l y k faults.Memory g is h = subst (FillTells b l y k) (sym is) tt
 
-    order_wider : (l : Listing) (x y : Option (Map (List ℕ))) (r : Result Unit FillFault) → IfErr r (λ fault. EndsFilling a l fault x y) → IfErr r (λ fault. EndsFilling b l fault x y)
-    order_wider l x y (Ok u) h = tt
-    order_wider l x y (Err fault) (inl none) = inl none
-    order_wider l x y (Err fault) (inr h) = inr (record { entry = h.entry; listed = h.listed; holds = h.holds; others = h.others; tells = tells_wider l y h.entry fault h.tells })
+    ends_wider : (l : Listing) (x y : Option (Map (List ℕ))) (f g : FillFault) → IsFaultAs N f g → EndsFilling a l f x y → EndsFilling b l g x y
+    ends_wider l x y f g is (inl early) = inl (memory_as N f g early.0 is, early.1)
+    ends_wider l x y f g is (inr h) = inr (record { entry = h.entry; listed = h.listed; holds = h.holds; others = h.others; tells = tells_wider l y h.entry f g is h.tells })
 
-    index_wider : (l : Listing) (x y : Option (Map (List ℕ))) (r : Result Unit FillFault) → IndexFilled a l x y r → IndexFilled b l x y r
-    index_wider l x y r h = record { added = added_wider l x y h.added; holds = h.holds; exactly = exactly_wider l x r h.exactly; order = order_wider l x y r h.order }
+    index_wider : (l : Listing) (x y : Option (Map (List ℕ))) (f g : FillFault) → IsFaultAs N f g → IndexFilled a l x y (Err f) → IndexFilled b l x y (Err g)
+    index_wider l x y f g is h = record {
+      added = added_wider l x y h.added;
+      holds = subst (λ (k : ℕ). HoldsFirst l k y) (filled_as N l f g is) h.holds;
+      exactly = λ fs told still. if_told (option_map chunks x) _ (λ m held_is sizes. fills_as N l m (map chunks fs) f g is (of_told (option_map chunks x) _ m held_is (h.exactly fs (held fs told) (quiet fs told still)) sizes));
+      order = ends_wider l x y f g is h.order;
+    }
 
     -- over a part of a command
     module _ (w0 v0 w v : Storage) (part : IsPart w w0 v0 v) where
@@ -174,15 +181,17 @@ module _ (a b : Evidence) (held : (fs : List (Map (List ℕ))) → b.holds fs �
       all_wider [] x y h = h
       all_wider (q ∷ indexes) x y (l, listed, z, filled, rest) = (l, spells_wider w w0 v0 v part q l listed, z, done_wider l x z filled, all_wider indexes z y rest)
 
-      none_wider : (indexes : List (List ℕ)) (x y : Option (Map (List ℕ))) (o : Outcome) → NotFilled a w0 v0 indexes x y o → NotFilled b w v indexes x y o
-      none_wider [] x y o h = absurd h
-      none_wider (q ∷ indexes) x y o (inl h) = inl (not_spelled_wider w w0 v0 v part q o h.0, h.1)
-      none_wider (q ∷ indexes) x y o (inr (l, listed, inl (fault, is, filled))) = inr (l, spells_wider w w0 v0 v part q l listed, inl (fault, is, index_wider l x y (Err fault) filled))
-      none_wider (q ∷ indexes) x y o (inr (l, listed, inr (z, filled, rest))) = inr (l, spells_wider w w0 v0 v part q l listed, inr (z, done_wider l x z filled, none_wider indexes z y o rest))
+      none_wider : (indexes : List (List ℕ)) (x y : Option (Map (List ℕ))) (o p : Outcome) → IsOutcomeAs N o p → NotFilled a w0 v0 indexes x y o → NotFilled b w v indexes x y p
+      none_wider [] x y o p as h = absurd h
+      none_wider (q ∷ indexes) x y o p as (inl h) = inl (subst (NotSpelled w v q) (spelled_as N w0 v0 q o p as h.0) (not_spelled_wider w w0 v0 v part q o h.0), h.1)
+      none_wider (q ∷ indexes) x y o p as (inr (l, listed, inl (fault, is, filled))) =
+          let other = fault_as N fault o p is as in
+          inr (l, spells_wider w w0 v0 v part q l listed, inl (other.0, other.1, index_wider l x y fault other.0 other.2 filled))
+      none_wider (q ∷ indexes) x y o p as (inr (l, listed, inr (z, filled, rest))) = inr (l, spells_wider w w0 v0 v part q l listed, inr (z, done_wider l x z filled, none_wider indexes z y o p as rest))
 
-      pub fills_wider : (indexes : List (List ℕ)) (x y : Option (Map (List ℕ))) (r : Result Unit Outcome) → FillsEach a w0 v0 indexes x y r → FillsEach b w v indexes x y r
-      fills_wider indexes x y (Ok u) h = all_wider indexes x y h
-      fills_wider indexes x y (Err o) h = none_wider indexes x y o h
+      pub fills_wider : (indexes : List (List ℕ)) (x y : Option (Map (List ℕ))) (r s : Result Unit Outcome) → IsAnswerAs N r s → FillsEach a w0 v0 indexes x y r → FillsEach b w v indexes x y s
+      fills_wider indexes x y (Ok u) s is h = subst (FillsEach b w v indexes x y) (sym is) (all_wider indexes x y h)
+      fills_wider indexes x y (Err o) s (p, is, as) h = subst (FillsEach b w v indexes x y) (sym is) (none_wider indexes x y o p as h)
 
 -- the first index filled, and then the rest
 fills_next : (over : Evidence) (w v : Storage) (q : List ℕ) (indexes : List (List ℕ)) (l : Listing) (x z y : Option (Map (List ℕ))) (r : Result Unit Outcome)
@@ -216,7 +225,7 @@ module _ {S : Type 0} (files : S → Option (Map (List ℕ))) (said : S → Said
   fills_on q indexes l x z y r listed filled rest =
       fills_next all w v q indexes l x z y r listed
       (done_wider first all (λ fs told. told) (λ fs told quiet. still_first quiet) l x z filled)
-      (fills_wider next all (λ fs told. same ∙ told) (λ fs told quiet. still_next quiet) (λ c r h. h) (rose_later m0 m1 m2 below) u v w v part indexes z y r rest)
+      (fills_wider next all (λ fs told. same ∙ told) (λ fs told quiet. still_next quiet) IsSame (λ c x n is h. subst (next.refused c) (sym is) h) refl (λ fs told x n is. is) (rose_later m0 m1 m2 below) u v w v part indexes z y r r (same_answer r) rest)
 
 -- how filling by an index was answered
 pub fill_stopped : (over : Evidence) (l : Listing) (x y : Option (Map (List ℕ))) (r : Result Unit FillFault) (o : Outcome) → answer_of_fill r ≡ Err o → IndexFilled over l x y r
