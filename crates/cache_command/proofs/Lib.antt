@@ -1,4 +1,5 @@
 pub mod Renumbered
+pub mod GivenGroups
 pub mod CacheFilled
 pub mod AskedListings
 pub mod LentChains

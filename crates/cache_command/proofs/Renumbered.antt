@@ -1,19 +1,29 @@
 -- Answers that name a store by another number. N says which refusals are told as which.
-use Rattle.std.proofs.Common.{◌≡◌, ℕ, List, Result, Ok, Err, refl, sym, ap, subst}
+use Rattle.std.proofs.Common.{◌≡◌, ◌∙◌, ◌+◌, ◌<◌, ◌≤◌, ℕ, zero, suc, List, [], ◌∷◌, length, map, slice_index, slice_index_or, Option, Some, None, IsSomeAnd, Result, Ok, Err, refl, sym, ap, subst, arith}
+use Rattle.std.proofs.lemmas.List.{length-map}
 use Rattle.cache_command.specs.Caching.{outcome_of_fill}
 use Rattle.cache_fill.specs.Filling.{FillsBy, filled_to}
 use Rattle.cache_fill.specs.declared.fill.FillFault.{FillFault}
 use Rattle.cache_fill.specs.declared.fill.FillFault.TheVariants as faults
 use Rattle.caibx_codec.specs.Listing.{Listing}
+use Rattle.chunk_store.specs.Folders.{chunks}
+use Rattle.command_groups.proofs.Lacked.{damaged_numbered, fault_numbered, lacks_numbered, missing_numbered}
+use Rattle.command_groups.specs.Groups.{first_store, group_files}
+use Rattle.command_groups.specs.Lacking.{GroupsLack, HaveLackedIn}
+use Rattle.command_groups.specs.Numbers.{IsNumbered, answer_of_stores, outcome_of_stores}
 use Rattle.command_indexes.specs.Spelled.{NotSpelled, NotSpelledAt}
 use Rattle.command_outcome.specs.declared.outcome.Outcome.{Outcome}
 use Rattle.command_outcome.specs.declared.outcome.Outcome.TheVariants as ends
 use Rattle.command_steps.specs.Sources.{Storage}
 use Rattle.command_words.specs.Locations.{index_place_of}
+use Rattle.command_words.specs.declared.command.Location.{Location}
 use Rattle.command_words.specs.declared.location.IndexPlace.{IndexPlace}
 use Rattle.command_words.specs.declared.location.IndexPlace.TheVariants as places
 use Rattle.command_words.specs.declared.location.NoLocation.{NoLocation}
 use Rattle.dsy_base.specs.Maps.{Map}
+use Rattle.store_chain.specs.Giving.{LacksAll}
+use Rattle.store_chain.specs.Lists.{FirstAt}
+use Rattle.store_chain.specs.declared.query.Query.{Query}
 use Rattle.store_chain.specs.declared.refused.Refused.{Refused}
 use Rattle.store_chain.specs.declared.refused.Refused.TheVariants as refused
 
@@ -94,3 +104,52 @@ same_outcome other = refl
 pub same_answer : (r : Result Unit Outcome) → IsAnswerAs IsSame r r
 same_answer (Ok u) = refl
 same_answer (Err o) = (o, refl, same_outcome o)
+
+-- ---- by the numbers of the groups' stores
+
+-- the number of a store in the place of that of its group
+abbrev pub refused_of_stores : List (List Location) → List ℕ → Refused → Refused
+refused_of_stores groups active (refused.StoreFault k) = refused.StoreFault (first_store groups k)
+refused_of_stores groups active (refused.Damaged k x) = refused.Damaged (first_store groups k + slice_index active k) x
+refused_of_stores groups active other = other
+
+first_inside : {X : Type 0} (B A C : X → Type 0) (k : ℕ) (xs : List X) → FirstAt B A C k xs → k < length xs
+first_inside B A C k [] h = absurd h
+first_inside B A C zero (x ∷ xs) h = omega arith
+first_inside B A C (suc k) (x ∷ xs) h = let rest = first_inside B A C k xs h.1 in omega (arith, rest)
+
+module _ (groups : List (List Location)) (active : List ℕ) where
+  abbrev pub IsTold : Refused → Refused → Type 0
+  IsTold r n = n ≡ refused_of_stores groups active r
+
+  told_outcome : (o : Outcome) → IsOutcomeAs IsTold o (outcome_of_stores groups active o)
+  told_outcome (ends.Damaged k id s x) = (first_store groups s + slice_index active s, refl, refl)
+  told_outcome (ends.StoreFault s) = (first_store groups s, refl, refl)
+  told_outcome other = refl
+
+  pub told_answer : (r : Result Unit Outcome) → IsAnswerAs IsTold r (answer_of_stores groups active r)
+  told_answer (Ok u) = refl
+  told_answer (Err o) = (outcome_of_stores groups active o, refl, told_outcome o)
+
+  module _ (inside : (k : ℕ) → k < length groups → slice_index active k < length (slice_index_or groups k [])) where
+    pub told_lack : (again : ℕ) (w v : Storage) (c : Query) (r n : Refused) → IsTold r n → GroupsLack again c w v groups r → HaveLackedIn again c w v groups n
+    told_lack again w v c refused.Missing n is h = subst (HaveLackedIn again c w v groups) (sym is) (missing_numbered again c w v groups h)
+    told_lack again w v c (refused.Damaged k x) n is h = subst (HaveLackedIn again c w v groups) (sym is) (damaged_numbered again c w v groups active inside k x h)
+    told_lack again w v c (refused.StoreFault k) n is h = subst (HaveLackedIn again c w v groups) (sym is) (fault_numbered again c w v groups k h)
+    told_lack again w v c refused.Memory n is h = subst (HaveLackedIn again c w v groups) (sym is) (refused.Memory, refl, tt)
+
+    -- where all groups are of one store, the numbers are the same
+    numbered_as : (c : Query) (maps : List (Map (List ℕ))) → length maps ≡ length groups → (r n : Refused) → IsTold r n → LacksAll c maps r → IsNumbered groups r n
+    numbered_as c maps many refused.Missing n is h = is
+    numbered_as c maps many (refused.Damaged k x) n is h =
+        let below = first_inside _ _ _ k maps h in
+        let at = inside k (omega (arith, below, many)) in
+        (first_store groups k + slice_index active k, is, omega arith, omega (arith, at))
+    numbered_as c maps many (refused.StoreFault k) n is h = is
+    numbered_as c maps many refused.Memory n is h = is
+
+    pub told_maps : (o : Option (Map (Map (List ℕ)))) (fs : List (Map (List ℕ))) → IsSomeAnd o (λ m. map (group_files m) groups ≡ map Some fs) → (c : Query) (r n : Refused) → IsTold r n → LacksAll c (map chunks fs) r → LacksAll c (map chunks fs) n
+    told_maps None fs told c r n is h = absurd told
+    told_maps (Some m) fs told c r n is h =
+        let many : length (map chunks fs) ≡ length groups = length-map fs chunks ∙ sym (length-map fs Some) ∙ sym (ap length told) ∙ length-map groups (group_files m) in
+        lacks_numbered m groups fs told c (map chunks fs) many r n (numbered_as c (map chunks fs) many r n is h) h

@@ -12,13 +12,14 @@ use Rattle.chunk_store.specs.Folders.{chunks}
 use Rattle.chunk_store.specs.Giving.{IsChunk}
 use Rattle.chunk_store.specs.declared.id.ChunkId.{ChunkId}
 use Rattle.chunk_store.specs.declared.store.Store.{Ghosts as StoreWords}
-use Rattle.command_groups.specs.Asking.{WorkersAsked}
+use Rattle.command_groups.specs.Asking.{WorkersGroupsDialed, with_retries}
 use Rattle.command_groups.specs.Groups.{group_files, stores_of}
 use Rattle.command_groups.specs.Lacking.{HaveLackedIn}
 use Rattle.command_outcome.specs.declared.outcome.Outcome.{Outcome}
 use Rattle.command_outcome.specs.declared.outcome.Outcome.TheVariants as ends
 use Rattle.command_indexes.specs.Places.{are_files}
 use Rattle.command_indexes.specs.Spelled.{AsksInTurn, NotSpelled, IndexSpells}
+use Rattle.command_steps.specs.Asking.{Asks, AsksOnly}
 use Rattle.command_steps.specs.Cache.{CacheOpened}
 use Rattle.command_steps.specs.Dials.{Dials}
 use Rattle.command_steps.specs.Sources.{OnStorage, SourcesOpened, Storage}
@@ -197,7 +198,9 @@ pub record GetsListed (w v : Storage) (e most : ℕ) (indexes : List (List ℕ))
   pub workers : ℕ
   pub some : 1 ≤ workers
   pub few : workers ≤ max 1 most
-  pub gets : WorkersAsked e (listed_times listings) (λ id. 0) (IsGetAmong listings) workers groups ended v.dial.ended
+  pub gets : WorkersGroupsDialed
+      (λ n. AsksOnly (with_retries e (listed_times listings)) (with_retries e (λ id. 0)) (IsGetAmong listings))
+      (λ n. Asks (with_retries e (listed_times listings)) (with_retries e (λ id. 0))) workers groups ended v.dial.ended
 
 -- ---- the command
 
