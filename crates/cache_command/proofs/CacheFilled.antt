@@ -188,8 +188,8 @@ module _ (a b : Evidence) (held : (fs : List (Map (List ℕ))) → b.holds fs �
 
     tells_wider : (l : Listing) (y : Option (Map (List ℕ))) (k : ℕ) (f g : FillFault) → IsFaultAs N f g → FillTells a l y k f → FillTells b l y k g
     tells_wider l y k (faults.Missing e id) g is h = subst (FillTells b l y k) (sym is) (h.0, lost_wider l y k id refused.Missing refused.Missing none h.1)
-    tells_wider l y k (faults.Damaged e id s x) g (t, is, as) h = subst (FillTells b l y k) (sym as) (h.0, lost_wider l y k id (refused.Damaged s x) (refused.Damaged t x) is h.1)
-    tells_wider l y k (faults.StoreFault s) g (t, is, as) h = subst (FillTells b l y k) (sym as) (h.0, lost_wider l y k h.0 (refused.StoreFault s) (refused.StoreFault t) is h.1)
+    tells_wider l y k (faults.Damaged e id s x) g (t, is, named) h = subst (FillTells b l y k) (sym named) (h.0, lost_wider l y k id (refused.Damaged s x) (refused.Damaged t x) is h.1)
+    tells_wider l y k (faults.StoreFault s) g (t, is, named) h = subst (FillTells b l y k) (sym named) (h.0, lost_wider l y k h.0 (refused.StoreFault s) (refused.StoreFault t) is h.1)
     tells_wider l y k faults.CacheFault g is h = subst (FillTells b l y k) (sym is) (cache h.0, λ fs told. h.1 fs (held fs told))
     tells_wider l y k faults.Memory g is h = subst (FillTells b l y k) (sym is) tt
 
@@ -212,16 +212,16 @@ module _ (a b : Evidence) (held : (fs : List (Map (List ℕ))) → b.holds fs �
       all_wider (q ∷ indexes) x y (l, listed, z, filled, rest) = (l, spells_wider w w0 v0 v part q l listed, z, done_wider l x z filled, all_wider indexes z y rest)
 
       none_wider : (indexes : List (List ℕ)) (x y : Option (Map (List ℕ))) (o p : Outcome) → IsOutcomeAs N o p → NotFilled a w0 v0 indexes x y o → NotFilled b w v indexes x y p
-      none_wider [] x y o p as h = absurd h
-      none_wider (q ∷ indexes) x y o p as (inl h) = inl (subst (NotSpelled w v q) (spelled_as N w0 v0 q o p as h.0) (not_spelled_wider w w0 v0 v part q o h.0), h.1)
-      none_wider (q ∷ indexes) x y o p as (inr (l, listed, inl (fault, is, filled))) =
-          let other = fault_as N fault o p is as in
+      none_wider [] x y o p named h = absurd h
+      none_wider (q ∷ indexes) x y o p named (inl h) = inl (subst (NotSpelled w v q) (spelled_as N w0 v0 q o p named h.0) (not_spelled_wider w w0 v0 v part q o h.0), h.1)
+      none_wider (q ∷ indexes) x y o p named (inr (l, listed, inl (fault, is, filled))) =
+          let other = fault_as N fault o p is named in
           inr (l, spells_wider w w0 v0 v part q l listed, inl (other.0, other.1, index_wider l x y fault other.0 other.2 filled))
-      none_wider (q ∷ indexes) x y o p as (inr (l, listed, inr (z, filled, rest))) = inr (l, spells_wider w w0 v0 v part q l listed, inr (z, done_wider l x z filled, none_wider indexes z y o p as rest))
+      none_wider (q ∷ indexes) x y o p named (inr (l, listed, inr (z, filled, rest))) = inr (l, spells_wider w w0 v0 v part q l listed, inr (z, done_wider l x z filled, none_wider indexes z y o p named rest))
 
       pub fills_wider : (indexes : List (List ℕ)) (x y : Option (Map (List ℕ))) (r s : Result Unit Outcome) → IsAnswerAs N r s → FillsEach a w0 v0 indexes x y r → FillsEach b w v indexes x y s
       fills_wider indexes x y (Ok u) s is h = subst (FillsEach b w v indexes x y) (sym is) (all_wider indexes x y h)
-      fills_wider indexes x y (Err o) s (p, is, as) h = subst (FillsEach b w v indexes x y) (sym is) (none_wider indexes x y o p as h)
+      fills_wider indexes x y (Err o) s (p, is, named) h = subst (FillsEach b w v indexes x y) (sym is) (none_wider indexes x y o p named h)
 
 -- the first index filled, and then the rest
 fills_next : (over : Evidence) (w v : Storage) (q : List ℕ) (indexes : List (List ℕ)) (l : Listing) (x z y : Option (Map (List ℕ))) (r : Result Unit Outcome)

@@ -48,48 +48,48 @@ module _ (N : Refused → Refused → Type 0) where
   IsAnswerAs (Err o) s = (p : Outcome) × (s ≡ Err p) × IsOutcomeAs o p
 
   pub memory_as : (f g : FillFault) → f ≡ faults.Memory → IsFaultAs f g → g ≡ faults.Memory
-  memory_as f g is as = subst (λ (h : FillFault). IsFaultAs h g) is as
+  memory_as f g is named = subst (λ (h : FillFault). IsFaultAs h g) is named
 
   pub filled_as : (l : Listing) (f g : FillFault) → IsFaultAs f g → filled_to l (Err f) ≡ filled_to l (Err g)
-  filled_as l (faults.Missing k id) g as = ap (λ (h : FillFault). filled_to l (Err h)) (sym as)
-  filled_as l (faults.Damaged k id s x) g (t, n, as) = ap (λ (h : FillFault). filled_to l (Err h)) (sym as)
-  filled_as l (faults.StoreFault s) g (t, n, as) = ap (λ (h : FillFault). filled_to l (Err h)) (sym as)
-  filled_as l faults.CacheFault g as = ap (λ (h : FillFault). filled_to l (Err h)) (sym as)
-  filled_as l faults.Memory g as = ap (λ (h : FillFault). filled_to l (Err h)) (sym as)
+  filled_as l (faults.Missing k id) g named = ap (λ (h : FillFault). filled_to l (Err h)) (sym named)
+  filled_as l (faults.Damaged k id s x) g (t, n, named) = ap (λ (h : FillFault). filled_to l (Err h)) (sym named)
+  filled_as l (faults.StoreFault s) g (t, n, named) = ap (λ (h : FillFault). filled_to l (Err h)) (sym named)
+  filled_as l faults.CacheFault g named = ap (λ (h : FillFault). filled_to l (Err h)) (sym named)
+  filled_as l faults.Memory g named = ap (λ (h : FillFault). filled_to l (Err h)) (sym named)
 
   pub fills_as : (l : Listing) (m : Map (List ℕ)) (maps : List (Map (List ℕ))) (f g : FillFault) → IsFaultAs f g → FillsBy l m maps (Err f) → FillsBy l m maps (Err g)
-  fills_as l m maps (faults.Missing k id) g as h = subst (λ (e : FillFault). FillsBy l m maps (Err e)) (sym as) h
-  fills_as l m maps (faults.Damaged k id s x) g (t, n, as) h = subst (λ (e : FillFault). FillsBy l m maps (Err e)) (sym as) h
-  fills_as l m maps (faults.StoreFault s) g (t, n, as) h = absurd h
-  fills_as l m maps faults.CacheFault g as h = absurd h
-  fills_as l m maps faults.Memory g as h = subst (λ (e : FillFault). FillsBy l m maps (Err e)) (sym as) tt
+  fills_as l m maps (faults.Missing k id) g named h = subst (λ (e : FillFault). FillsBy l m maps (Err e)) (sym named) h
+  fills_as l m maps (faults.Damaged k id s x) g (t, n, named) h = subst (λ (e : FillFault). FillsBy l m maps (Err e)) (sym named) h
+  fills_as l m maps (faults.StoreFault s) g (t, n, named) h = absurd h
+  fills_as l m maps faults.CacheFault g named h = absurd h
+  fills_as l m maps faults.Memory g named h = subst (λ (e : FillFault). FillsBy l m maps (Err e)) (sym named) tt
 
   -- the fault whose outcome it is
   pub fault_as : (f : FillFault) (o p : Outcome) → o ≡ outcome_of_fill f → IsOutcomeAs o p → (g : FillFault) × (p ≡ outcome_of_fill g) × IsFaultAs f g
-  fault_as (faults.Missing k id) o p is as = (faults.Missing k id, subst (λ (e : Outcome). IsOutcomeAs e p) is as, refl)
-  fault_as (faults.Damaged k id s x) o p is as =
-      let h = subst (λ (e : Outcome). IsOutcomeAs e p) is as in
+  fault_as (faults.Missing k id) o p is named = (faults.Missing k id, subst (λ (e : Outcome). IsOutcomeAs e p) is named, refl)
+  fault_as (faults.Damaged k id s x) o p is named =
+      let h = subst (λ (e : Outcome). IsOutcomeAs e p) is named in
       (faults.Damaged k id h.0 x, h.2, (h.0, h.1, refl))
-  fault_as (faults.StoreFault s) o p is as =
-      let h = subst (λ (e : Outcome). IsOutcomeAs e p) is as in
+  fault_as (faults.StoreFault s) o p is named =
+      let h = subst (λ (e : Outcome). IsOutcomeAs e p) is named in
       (faults.StoreFault h.0, h.2, (h.0, h.1, refl))
-  fault_as faults.CacheFault o p is as = (faults.CacheFault, subst (λ (e : Outcome). IsOutcomeAs e p) is as, refl)
-  fault_as faults.Memory o p is as = (faults.Memory, subst (λ (e : Outcome). IsOutcomeAs e p) is as, refl)
+  fault_as faults.CacheFault o p is named = (faults.CacheFault, subst (λ (e : Outcome). IsOutcomeAs e p) is named, refl)
+  fault_as faults.Memory o p is named = (faults.Memory, subst (λ (e : Outcome). IsOutcomeAs e p) is named, refl)
 
   -- why an index wasn't had names no store
   spelled_at : (w v : Storage) (q : List ℕ) (at : Result IndexPlace NoLocation) (o p : Outcome) → IsOutcomeAs o p → NotSpelledAt q at w v o → o ≡ p
-  spelled_at w v q (Ok (places.File name)) (ends.Damaged k id s x) p as h = absurd h
-  spelled_at w v q (Ok (places.File name)) (ends.StoreFault s) p as h = absurd h
-  spelled_at w v q (Ok (places.File name)) other p as h = sym as
-  spelled_at w v q (Ok (places.Http host port path)) (ends.Damaged k id s x) p as h = absurd h
-  spelled_at w v q (Ok (places.Http host port path)) (ends.StoreFault s) p as h = absurd h
-  spelled_at w v q (Ok (places.Http host port path)) other p as h = sym as
-  spelled_at w v q (Err why) (ends.Damaged k id s x) p as h = absurd (cc)
-  spelled_at w v q (Err why) (ends.StoreFault s) p as h = absurd (cc)
-  spelled_at w v q (Err why) other p as h = sym as
+  spelled_at w v q (Ok (places.File name)) (ends.Damaged k id s x) p named h = absurd h
+  spelled_at w v q (Ok (places.File name)) (ends.StoreFault s) p named h = absurd h
+  spelled_at w v q (Ok (places.File name)) other p named h = sym named
+  spelled_at w v q (Ok (places.Http host port path)) (ends.Damaged k id s x) p named h = absurd h
+  spelled_at w v q (Ok (places.Http host port path)) (ends.StoreFault s) p named h = absurd h
+  spelled_at w v q (Ok (places.Http host port path)) other p named h = sym named
+  spelled_at w v q (Err why) (ends.Damaged k id s x) p named h = absurd (cc)
+  spelled_at w v q (Err why) (ends.StoreFault s) p named h = absurd (cc)
+  spelled_at w v q (Err why) other p named h = sym named
 
   pub spelled_as : (w v : Storage) (q : List ℕ) (o p : Outcome) → IsOutcomeAs o p → NotSpelled w v q o → o ≡ p
-  spelled_as w v q o p as h = spelled_at w v q (index_place_of q) o p as h
+  spelled_as w v q o p named h = spelled_at w v q (index_place_of q) o p named h
 
 -- ---- by the same number
 
