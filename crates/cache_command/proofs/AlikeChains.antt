@@ -38,10 +38,11 @@ map_twice : {A B C : Type 0} (g : B → C) (f : A → B) (xs : List A) → map (
 map_twice g f [] = refl
 map_twice g f (x ∷ xs) = ap (λ l. g (f x) ∷ l) (map_twice g f xs)
 
-module _ {L D K : Type 0} (files : L → Option (Map (List ℕ))) (place : L → List ℕ) where
-  abbrev G : Type 0
-  G = Grouped (AnyStore L D K)
+-- what a group holds, by the files of its folders
+abbrev held_by : List (Option (Map (List ℕ))) → Option (Map (List ℕ))
+held_by folders = of_one (option_map chunks) folders
 
+module _ {L D K : Type 0} (files : L → Option (Map (List ℕ))) (place : L → List ℕ) where
   none_seen : ((l : L) → files l ≡ None) → (x : AnyStore L D K) → source_files files x ≡ None
   none_seen none (stores.Folder l) = none l
   none_seen none (stores.Http r) = refl
@@ -55,7 +56,7 @@ module _ {L D K : Type 0} (files : L → Option (Map (List ℕ))) (place : L →
       let first : source_files files x ≡ source_files files y = none_seen none x ∙ sym (none_seen none y) in
       (λ i. first i ∷ nothing_seen none xs ys rest i)
 
-  nothing_in : ((l : L) → files l ≡ None) → (xs ys : List G) → map (locations_in place) xs ≡ map (locations_in place) ys → map (files_in files) xs ≡ map (files_in files) ys
+  nothing_in : ((l : L) → files l ≡ None) → (xs ys : List (Grouped (AnyStore L D K))) → map (locations_in place) xs ≡ map (locations_in place) ys → map (files_in files) xs ≡ map (files_in files) ys
   nothing_in none [] [] same = refl
   nothing_in none [] (h ∷ ys) same = absurd (cc)
   nothing_in none (g ∷ xs) [] same = absurd (cc)
@@ -66,37 +67,30 @@ module _ {L D K : Type 0} (files : L → Option (Map (List ℕ))) (place : L →
       let others = nothing_in none xs ys rest in
       (λ i. first i ∷ others i)
 
-  files_alike : (tells looks : Bool) → ((l : L) → is_some (files l) ≡ looks) → (IsTrue looks → IsTrue tells) → (folders : Option (Map (Map (List ℕ)))) → is_some folders ≡ tells → (names : List (List Location)) (xs ys : List G) → map (locations_in place) xs ≡ map (locations_in place) ys
+  files_alike : (tells looks : Bool) → ((l : L) → is_some (files l) ≡ looks) → (IsTrue looks → IsTrue tells) → (folders : Option (Map (Map (List ℕ)))) → is_some folders ≡ tells → (names : List (List Location)) (xs ys : List (Grouped (AnyStore L D K))) → map (locations_in place) xs ≡ map (locations_in place) ys
       → IfSome folders (λ m. map (files_in files) xs ≡ map (map (location_files m)) names) → IfSome folders (λ m. map (files_in files) ys ≡ map (map (location_files m)) names) → map (files_in files) xs ≡ map (files_in files) ys
   files_alike tells looks told seen (Some m) tells_are names xs ys same one two = one ∙ sym two
   files_alike tells looks told seen None tells_are names xs ys same one two = nothing_in (λ l. untold_files tells looks (files l) (told l) seen (sym tells_are)) xs ys same
-
-  -- what a group holds, by the files of its folders
-  abbrev held_by : List (Option (Map (List ℕ))) → Option (Map (List ℕ))
-  held_by folders = of_one (option_map chunks) folders
 
   group_holds : (xs : List (AnyStore L D K)) → of_one (chunks_in files) xs ≡ held_by (map (source_files files) xs)
   group_holds [] = refl
   group_holds (x ∷ []) = refl
   group_holds (x ∷ y ∷ xs) = refl
 
-  all_hold : (xs : List G) → map (λ g. of_one (chunks_in files) g.stores) xs ≡ map (λ g. held_by (files_in files g)) xs
+  all_hold : (xs : List (Grouped (AnyStore L D K))) → map (λ g. of_one (chunks_in files) g.stores) xs ≡ map (λ g. held_by (files_in files g)) xs
   all_hold [] = refl
   all_hold (g ∷ xs) = λ i. group_holds g.stores i ∷ all_hold xs i
 
   -- two lists of groups that were opened for the same words from the same folders
-  pub hold_alike : (tells looks : Bool) → ((l : L) → is_some (files l) ≡ looks) → (IsTrue looks → IsTrue tells) → (folders : Option (Map (Map (List ℕ)))) → is_some folders ≡ tells → (names : List (List Location)) (xs ys : List G)
+  pub hold_alike : (tells looks : Bool) → ((l : L) → is_some (files l) ≡ looks) → (IsTrue looks → IsTrue tells) → (folders : Option (Map (Map (List ℕ)))) → is_some folders ≡ tells → (names : List (List Location)) (xs ys : List (Grouped (AnyStore L D K)))
       → map (locations_in place) xs ≡ names → map (locations_in place) ys ≡ names → IfSome folders (λ m. map (files_in files) xs ≡ map (map (location_files m)) names) → IfSome folders (λ m. map (files_in files) ys ≡ map (map (location_files m)) names)
       → map (λ g. of_one (chunks_in files) g.stores) xs ≡ map (λ g. of_one (chunks_in files) g.stores) ys
   hold_alike tells looks told seen folders tells_are names xs ys at there one two =
       all_hold xs ∙ map_twice held_by (files_in files) xs ∙ ap (map held_by) (files_alike tells looks told seen folders tells_are names xs ys (at ∙ sym there) one two) ∙ sym (map_twice held_by (files_in files) ys) ∙ sym (all_hold ys)
 
 module _ {L D K : Type 0} (look : LookWords L) (state : D → DialState) where
-  abbrev H : Type 0
-  H = Grouped (AnyStore L D K)
-
   -- the groups of the first worker were opened, those of the further ones, and the folder of the cache was taken
-  pub just_reached : (tells : Bool) → ((l : L) → is_some (look.files l) ≡ look.tells) → (IsTrue look.tells → IsTrue tells) → (d a b m : Disk) (s t : Shelf) (cache : List ℕ) (names : List (List Location)) (again : ℕ) (first : Chained H) (xs : List H) (more cs : List (Chained H))
+  pub just_reached : (tells : Bool) → ((l : L) → is_some (look.files l) ≡ look.tells) → (IsTrue look.tells → IsTrue tells) → (d a b m : Disk) (s t : Shelf) (cache : List ℕ) (names : List (List Location)) (again : ℕ) (first : Chained (Grouped (AnyStore L D K))) (xs : List (Grouped (AnyStore L D K))) (more cs : List (Chained (Grouped (AnyStore L D K))))
       → s ≡ t → first.stores ≡ xs → more ≡ cs → is_some a.folders ≡ tells → Reads d a → Reads a b → Reads b (with_cache (Some t) m) → map (locations_in look.place) xs ≡ names
       → IfSome d.folders (λ x. map (files_in look.files) xs ≡ map (map (location_files x)) names) → All (IsFresh (source_faults look.faults state) again) xs → All (AreUnused state) xs → All (IsKnown a.folder_counts) (stores_of names) → All (IsChainOpened look state a b names again) cs
       → t.place ≡ cache → IsSome (m.folder_counts cache) → t.faults ≡ 0 → JustOpened look state again (group_words look state) m cache s first more

@@ -30,34 +30,31 @@ use Rattle.store_chain.specs.Chains.{Chained}
 use Rattle.store_group.specs.Groups.{Grouped}
 
 module _ {L D K : Type 0} (look : LookWords L) (state : D → DialState) where
-  abbrev C : Type 0
-  C = Chained (Grouped (AnyStore L D K))
-
   abbrev Words : StoreWords (Grouped (AnyStore L D K))
   Words = group_words look state
 
-  abbrev AllFresh : ℕ → C → Type 0
+  abbrev AllFresh : ℕ → Chained (Grouped (AnyStore L D K)) → Type 0
   AllFresh again c = All (IsFresh (source_faults look.faults state) again) c.stores
 
   -- a chain stands where it stood
-  pub chain_stands : (ls : List Listing) (c d : C) → AsksListings Words ls c d → chain_groups look d ≡ chain_groups look c
+  pub chain_stands : (ls : List Listing) (c d : Chained (Grouped (AnyStore L D K))) → AsksListings Words ls c d → chain_groups look d ≡ chain_groups look c
   chain_stands ls c d h = groups_stand_still look.place c.stores d.stores h.keeps.places
 
-  pub chains_stand : (ls : List Listing) (names : List (List Location)) (cs ds : List C) → AllZip (AsksListings Words ls) cs ds → All (λ c. chain_groups look c ≡ names) cs → All (λ d. chain_groups look d ≡ names) ds
+  pub chains_stand : (ls : List Listing) (names : List (List Location)) (cs ds : List (Chained (Grouped (AnyStore L D K)))) → AllZip (AsksListings Words ls) cs ds → All (λ c. chain_groups look c ≡ names) cs → All (λ d. chain_groups look d ≡ names) ds
   chains_stand ls names cs ds zip at = λ n d lt.
       let inside : n < length cs = omega (arith, lt, length_all_zip (AsksListings Words ls) cs ds zip) in
       chain_stands ls (slice_index_or cs n d) (slice_index_or ds n d) (AllZip-get_or (AsksListings Words ls) cs ds n d d zip inside) ∙ at n d inside
 
   -- its calls are made as often again
-  pub chain_tries : (ls : List Listing) (again : ℕ) (c d : C) → AsksListings Words ls c d → AllFresh again c → All (λ g. g.retries ≡ again) d.stores
+  pub chain_tries : (ls : List Listing) (again : ℕ) (c d : Chained (Grouped (AnyStore L D K))) → AsksListings Words ls c d → AllFresh again c → All (λ g. g.retries ≡ again) d.stores
   chain_tries ls again c d h fresh = groups_try_still look.place again c.stores d.stores h.keeps.places (fresh_tries (source_faults look.faults state) again c.stores fresh)
 
   -- its folders hold what they held
-  pub chain_files : (ls : List Listing) (c d : C) → AsksListings Words ls c d → map (files_in look.files) d.stores ≡ map (files_in look.files) c.stores
+  pub chain_files : (ls : List Listing) (c d : Chained (Grouped (AnyStore L D K))) → AsksListings Words ls c d → map (files_in look.files) d.stores ≡ map (files_in look.files) c.stores
   chain_files ls c d h = folders_still look.place look.files state (IsGetAmong ls) c.stores d.stores (chain_stands ls c d h) h.keeps.files h.keeps.sends
 
   -- the connections of one
-  pub chain_dialed : (ls : List Listing) (names : List (List Location)) (again : ℕ) (c d : C) (old new : Option (List Traffic)) → AsksListings Words ls c d → All (AreUnused state) c.stores → AllFresh again c → chain_groups look c ≡ names → new ≡ fold (with_group state) old d.stores
+  pub chain_dialed : (ls : List Listing) (names : List (List Location)) (again : ℕ) (c d : Chained (Grouped (AnyStore L D K))) (old new : Option (List Traffic)) → AsksListings Words ls c d → All (AreUnused state) c.stores → AllFresh again c → chain_groups look c ≡ names → new ≡ fold (with_group state) old d.stores
       → GroupsAsked again (listed_times ls) (λ id. 0) (IsGetAmong ls) names old new
   chain_dialed ls names again c d old new h unused fresh at ended =
       let stands = chain_stands ls c d h in
@@ -65,7 +62,7 @@ module _ {L D K : Type 0} (look : LookWords L) (state : D → DialState) where
       h.gets (none_more Words.queried c.stores d.stores h.heads) h.keeps.sends (stands ∙ at) ended
 
   -- those of all: the further workers', and then the first one's
-  pub all_dialed : (ls : List Listing) (names : List (List Location)) (again : ℕ) (c d : C) (cs ds : List C) (w u : Storage) (new : Option (List Traffic)) → AsksListings Words ls c d → AllZip (AsksListings Words ls) cs ds
+  pub all_dialed : (ls : List Listing) (names : List (List Location)) (again : ℕ) (c d : Chained (Grouped (AnyStore L D K))) (cs ds : List (Chained (Grouped (AnyStore L D K)))) (w u : Storage) (new : Option (List Traffic)) → AsksListings Words ls c d → AllZip (AsksListings Words ls) cs ds
       → All (λ x. All (AreUnused state) x.stores) (c ∷ cs) → All (AllFresh again) (c ∷ cs) → chain_groups look c ≡ names → All (λ x. chain_groups look x ≡ names) cs → GivenInTurn (IsChainGiven look state) ds w u → new ≡ fold (with_group state) u.dial.ended d.stores
       → WorkersGroupsDialed (λ n. AsksOnly (with_retries again (listed_times ls)) (with_retries again (λ id. 0)) (IsGetAmong ls)) (λ n. Asks (with_retries again (listed_times ls)) (with_retries again (λ id. 0))) (1 + length ds) names w.dial.ended new
   all_dialed ls names again c d cs ds w u new h zip unused fresh at all turn ended =
@@ -77,12 +74,12 @@ module _ {L D K : Type 0} (look : LookWords L) (state : D → DialState) where
 
   -- ---- they were consulted
 
-  pub all_consulted : (names : List (List Location)) (ds : List C) (w u v : Storage) → All (λ x. chain_groups look x ≡ names) ds → GivenInTurn (IsChainGiven look state) ds w u → ConsultsStores (stores_of names) u v → ConsultsStores (stores_of names) w v
+  pub all_consulted : (names : List (List Location)) (ds : List (Chained (Grouped (AnyStore L D K)))) (w u v : Storage) → All (λ x. chain_groups look x ≡ names) ds → GivenInTurn (IsChainGiven look state) ds w u → ConsultsStores (stores_of names) u v → ConsultsStores (stores_of names) w v
   all_consulted names ds w u v all turn last =
       let before = chains_consult look state names ds w u all turn in
       (consults_twice w u v before.0 last.0, λ t. last.1 t ∙ before.1 t)
 
-  pub all_given : (names : List (List Location)) (ds : List C) (xs : List (Grouped (AnyStore L D K))) (w u v : Storage) → All (λ x. chain_groups look x ≡ names) ds → GivenInTurn (IsChainGiven look state) ds w u → ConsultsStores (stores_of names) u v
+  pub all_given : (names : List (List Location)) (ds : List (Chained (Grouped (AnyStore L D K)))) (xs : List (Grouped (AnyStore L D K))) (w u v : Storage) → All (λ x. chain_groups look x ≡ names) ds → GivenInTurn (IsChainGiven look state) ds w u → ConsultsStores (stores_of names) u v
       → All (IsGroupGiven look.place look.faults state u v) xs → All (IsGroupGiven look.place look.faults state w v) xs
   all_given names ds xs w u v all turn last given =
       let before = chains_consult look state names ds w u all turn in

@@ -30,11 +30,8 @@ opened_many locations groups again items same are =
     (omega (arith, many, are.some), omega (arith, many, few, are.few))
 
 module _ {L D K : Type 0} (place : L → List ℕ) (faults : L → ℕ) (state : D → DialState) where
-  abbrev G : Type 0
-  G = Grouped (AnyStore L D K)
-
   -- the active store of a group is one of those that its words name
-  pub active_inside : (w v : Storage) (xs : List G) (names : List (List Location)) → map (locations_in place) xs ≡ names → All (IsGroupGiven place faults state w v) xs
+  pub active_inside : (w v : Storage) (xs : List (Grouped (AnyStore L D K))) (names : List (List Location)) → map (locations_in place) xs ≡ names → All (IsGroupGiven place faults state w v) xs
       → (k : ℕ) → k < length names → slice_index (map (λ g. g.active) xs) k < length (slice_index_or names k [])
   active_inside w v [] names same given k lt = absurd (let none = ap length same in omega (arith, none, lt))
   active_inside w v (g ∷ xs) [] same given k lt = absurd (omega (arith, lt))

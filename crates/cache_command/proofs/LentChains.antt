@@ -19,19 +19,16 @@ use Rattle.store_chain.specs.Chains.{Chained}
 use Rattle.store_group.specs.Groups.{Grouped}
 
 module _ {L D K : Type 0} (look : LookWords L) where
-  abbrev C : Type 0
-  C = Chained (Grouped (AnyStore L D K))
-
   -- what can be given back can be so where no number was forgotten since
-  pub chain_later : (d e : Disk) → Reads d e → (c : C) → CanGiveChain look d c → CanGiveChain look e c
+  pub chain_later : (d e : Disk) → Reads d e → (c : Chained (Grouped (AnyStore L D K))) → CanGiveChain look d c → CanGiveChain look e c
   chain_later d e r c can = all_later d.folder_counts e.folder_counts r.folder_known (stores_of (chain_groups look c)) can
 
-  pub chains_later : (d e : Disk) → Reads d e → (cs : List C) → All (CanGiveChain look d) cs → All (CanGiveChain look e) cs
+  pub chains_later : (d e : Disk) → Reads d e → (cs : List (Chained (Grouped (AnyStore L D K)))) → All (CanGiveChain look d) cs → All (CanGiveChain look e) cs
   chains_later d e r cs can = λ n c lt. chain_later d e r (slice_index_or cs n c) (can n c lt)
 
   module _ (state : D → DialState) where
     -- what was opened over a later disk, and before more was read
-    pub chain_over : (d b c e : Disk) → Reads d b → Reads c e → (groups : List (List Location)) (again : ℕ) (x : C) → IsChainOpened look state b c groups again x → IsChainOpened look state d e groups again x
+    pub chain_over : (d b c e : Disk) → Reads d b → Reads c e → (groups : List (List Location)) (again : ℕ) (x : Chained (Grouped (AnyStore L D K))) → IsChainOpened look state b c groups again x → IsChainOpened look state d e groups again x
     chain_over d b c e r s groups again x is = record {
       found = subst (λ f. IfSome f (λ m. map (files_in look.files) x.stores ≡ map (map (location_files m)) groups)) r.folders is.found;
       located = is.located;
@@ -40,11 +37,11 @@ module _ {L D K : Type 0} (look : LookWords L) where
       given = chain_later c e s x is.given;
     }
 
-    pub chains_over : (d b c e : Disk) → Reads d b → Reads c e → (groups : List (List Location)) (again : ℕ) (xs : List C) → All (IsChainOpened look state b c groups again) xs → All (IsChainOpened look state d e groups again) xs
+    pub chains_over : (d b c e : Disk) → Reads d b → Reads c e → (groups : List (List Location)) (again : ℕ) (xs : List (Chained (Grouped (AnyStore L D K)))) → All (IsChainOpened look state b c groups again) xs → All (IsChainOpened look state d e groups again) xs
     chains_over d b c e r s groups again xs are = λ n x lt. chain_over d b c e r s groups again (slice_index_or xs n x) (are n x lt)
 
     -- no server was asked where their stores are folders
-    pub chains_folders : (groups : List (List Location)) (cs : List C) (w v : Storage) → All (λ c. chain_groups look c ≡ groups) cs → GivenInTurn (IsChainGiven look state) cs w v → IsTrue (are_folders (stores_of groups)) → v.dial ≡ w.dial
+    pub chains_folders : (groups : List (List Location)) (cs : List (Chained (Grouped (AnyStore L D K)))) (w v : Storage) → All (λ c. chain_groups look c ≡ groups) cs → GivenInTurn (IsChainGiven look state) cs w v → IsTrue (are_folders (stores_of groups)) → v.dial ≡ w.dial
     chains_folders groups [] w v at same all = ap (λ (s : Storage). s.dial) same
     chains_folders groups (c ∷ cs) w v at turn all =
         let here : chain_groups look c ≡ groups = at 0 c (omega arith) in
@@ -52,5 +49,5 @@ module _ {L D K : Type 0} (look : LookWords L) where
         ∙ chains_folders groups cs w turn.0 (λ n x lt. at (suc n) x (omega (arith, lt))) turn.1 all
 
     -- they were consulted as stores of these words
-    pub chains_consult : (groups : List (List Location)) (cs : List C) (w v : Storage) → All (λ c. chain_groups look c ≡ groups) cs → GivenInTurn (IsChainGiven look state) cs w v → ConsultsStores (stores_of groups) w v
+    pub chains_consult : (groups : List (List Location)) (cs : List (Chained (Grouped (AnyStore L D K)))) (w v : Storage) → All (λ c. chain_groups look c ≡ groups) cs → GivenInTurn (IsChainGiven look state) cs w v → ConsultsStores (stores_of groups) w v
     chains_consult groups cs w v at turn = (turn_consults (IsChainGiven look state) (λ c a b is. is.consults.0) cs w v turn, chains_folders groups cs w v at turn)

@@ -142,9 +142,9 @@ module _ (groups : List (List Location)) (active : List ℕ) where
     numbered_as : (c : Query) (maps : List (Map (List ℕ))) → length maps ≡ length groups → (r n : Refused) → IsTold r n → LacksAll c maps r → IsNumbered groups r n
     numbered_as c maps many refused.Missing n is h = is
     numbered_as c maps many (refused.Damaged k x) n is h =
-        let below = first_inside _ _ _ k maps h in
+        let below : k < length maps = first_inside _ _ _ k maps h in
         let at = inside k (omega (arith, below, many)) in
-        (first_store groups k + slice_index active k, is, omega arith, omega (arith, at))
+        (first_store groups k + slice_index active k, is, (omega arith, omega (arith, at)))
     numbered_as c maps many (refused.StoreFault k) n is h = is
     numbered_as c maps many refused.Memory n is h = is
 

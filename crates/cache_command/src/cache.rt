@@ -187,7 +187,15 @@ where
 {
     let groups = words.stores.as_slice();
     let cache = words.cache.as_str();
-    let reached = reach(alloc, files, dial, groups, words.retries, cache, words.workers);
+    let reached = reach(
+        alloc,
+        files,
+        dial,
+        groups,
+        words.retries,
+        cache,
+        words.workers,
+    );
     let filling = match reached {
         Ok(filling) => filling,
         Err(outcome) => return Err(outcome),

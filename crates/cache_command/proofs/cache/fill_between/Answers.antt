@@ -150,11 +150,11 @@ returns g c =
     let many : length more ≡ length further = length_all_zip (AsksListings _ asked.0) more further asked.2.1 in
     let found = subst (λ ns. IfSome (with_cache (Some s) d0).folders (λ m. map (files_in look.files) first.stores ≡ map (map (location_files m)) ns)) c.requires.located c.requires.reached.found in
     let between = filled_between look state again cache s t d0 b m e n k j names first.stores after c.requires.reached.cache_named (over.place ∙ c.requires.reached.cache_named) had.reads gives all_closed
-        (All-head (λ c. All _ c.stores) first more fresh) located (chain_tries look state asked.0 again first chain asked.2.0 (All-head (λ c. All _ c.stores) first more fresh)) (chain_files look state asked.0 first chain asked.2.0) asked.2.0.keeps.files found all_gained part
-        (1 + length more) indexes filled at_zero had.undialed
-        (record { listings = asked.0; read = front_wider (storage (with_cache (Some s) d0) n) (storage d0 n) (storage b k) (storage e j) part indexes asked.0 read; ended = k.ended; fetches = had.asks; workers = 1 + length further; some = omega arith; few = omega (arith, many); gets = gets }) in
+    (All-head (λ c. All _ c.stores) first more fresh) located (chain_tries look state asked.0 again first chain asked.2.0 (All-head (λ c. All _ c.stores) first more fresh)) (chain_files look state asked.0 first chain asked.2.0) asked.2.0.keeps.files found all_gained part
+    (1 + length more) indexes filled at_zero had.undialed
+    (record { listings = asked.0; read = front_wider (storage (with_cache (Some s) d0) n) (storage d0 n) (storage b k) (storage e j) part indexes asked.0 read; ended = k.ended; fetches = had.asks; workers = 1 + length further; some = omega arith; few = omega (arith, many); gets = gets }) in
     let answer : c.numbered-answer.result ≡ answer_of_stores names (map (λ g. g.active) after) filled =
-        c.numbered-answer.ensures.value
-        ∙ ap (λ (l : List (List Location)). answer_of_stores l (map (λ g. g.active) c.as_slice-2.result.now) filled) c.as_slice.ensures
-        ∙ ap (λ xs. answer_of_stores names (map (λ g. g.active) xs) filled) (c.as_slice-2.ensures ∙ last) in
+    c.numbered-answer.ensures.value
+    ∙ ap (λ (l : List (List Location)). answer_of_stores l (map (λ g. g.active) c.as_slice-2.result.now) filled) c.as_slice.ensures
+    ∙ ap (λ xs. answer_of_stores names (map (λ g. g.active) xs) filled) (c.as_slice-2.ensures ∙ last) in
     record { filled = subst (λ r. FilledBetween names again cache (1 + length more) indexes (storage (with_cache (Some s) d0) n) (storage e j) r) (sym answer) between }
