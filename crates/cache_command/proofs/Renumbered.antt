@@ -21,7 +21,7 @@ use Rattle.command_words.specs.declared.location.IndexPlace.{IndexPlace}
 use Rattle.command_words.specs.declared.location.IndexPlace.TheVariants as places
 use Rattle.command_words.specs.declared.location.NoLocation.{NoLocation}
 use Rattle.dsy_base.specs.Maps.{Map}
-use Rattle.store_chain.specs.Giving.{LacksAll}
+use Rattle.store_chain.specs.Giving.{Gives, HoldsElse, HoldsNone, LacksAll}
 use Rattle.store_chain.specs.Lists.{FirstAt}
 use Rattle.store_chain.specs.declared.query.Query.{Query}
 use Rattle.store_chain.specs.declared.refused.Refused.{Refused}
@@ -142,7 +142,7 @@ module _ (groups : List (List Location)) (active : List ℕ) where
     numbered_as : (c : Query) (maps : List (Map (List ℕ))) → length maps ≡ length groups → (r n : Refused) → IsTold r n → LacksAll c maps r → IsNumbered groups r n
     numbered_as c maps many refused.Missing n is h = is
     numbered_as c maps many (refused.Damaged k x) n is h =
-        let below : k < length maps = first_inside _ _ _ k maps h in
+        let below : k < length maps = first_inside (HoldsNone c) (HoldsElse c x) (λ m. Gives c m → ⊥) k maps h in
         let at = inside k (omega (arith, below, many)) in
         (first_store groups k + slice_index active k, is, (omega arith, omega (arith, at)))
     numbered_as c maps many (refused.StoreFault k) n is h = is
