@@ -1,7 +1,6 @@
 -- How the servers of groups that were fresh were asked, once they are given back.
-use Rattle.std.proofs.Common.{◌≡◌, ◌∙◌, ◌+◌, ◌*◌, ◌/◌, ◌<◌, ◌≤◌, ℕ, suc, List, [], ◌∷◌, length, map, max, slice_index_or, Option, Some, None, IfSome, refl, sym, ap, subst, arith}
+use Rattle.std.proofs.Common.{◌≡◌, ◌∙◌, ◌+◌, ◌*◌, ◌<◌, ◌≤◌, ℕ, suc, List, [], ◌∷◌, length, map, max, slice_index_or, Option, Some, None, IfSome, refl, sym, ap, subst, arith}
 use Rattle.std.proofs.Math.Nat.{div-eq_of_lt}
-use Rattle.std.proofs.lemmas.List.{append-nil, length-map}
 use Rattle.std.proofs.lemmas.List.Elements.{All-head, All-tail}
 use Rattle.std.specs.List.{All, AllByRecursion, AllZip, fold}
 use Rattle.chunk_store.specs.Asks.{Ask, Sends}
@@ -155,12 +154,12 @@ module _ {L D K : Type 0} (place : L → List ℕ) (state : D → DialState) whe
     one_sent P (x ∷ []) (y ∷ []) old many unused sends = each_sent place state P (x ∷ []) (y ∷ []) (location_in place y ∷ []) old (fold (with_those state) old (y ∷ [])) unused (sends, tt) refl refl
     one_sent P (x ∷ a ∷ xs) (y ∷ b ∷ ys) old many unused sends =
         each_dialed place state (λ s ended. Unit {0}) (y ∷ b ∷ ys) old (fold (with_those state) old (y ∷ b ∷ ys)) refl (λ k d lt. any_dialed (slice_index_or (y ∷ b ∷ ys) k d)) where
-      any_dialed : (s : AnyStore L D K) → IsDialed state (λ s ended. Unit {0}) s
-      any_dialed (stores.Folder l) = tt
-      any_dialed (stores.Http r) = go (state r.dial).ended where
-        go : (o : Option (List Traffic)) → IfSome o (λ ended. Unit {0})
-        go None = tt
-        go (Some ended) = tt
+          any_dialed : (s : AnyStore L D K) → IsDialed state (λ s ended. Unit {0}) s
+          any_dialed (stores.Folder l) = tt
+          any_dialed (stores.Http r) = go (state r.dial).ended where
+            go : (o : Option (List Traffic)) → IfSome o (λ ended. Unit {0})
+            go None = tt
+            go (Some ended) = tt
 
     -- ---- groups that were unused, and given back after they were asked so
 

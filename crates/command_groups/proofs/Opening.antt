@@ -5,7 +5,7 @@ use Rattle.std.proofs.lemmas.List.Elements.{All-append, All-cons, All-head, All-
 use Rattle.std.specs.List.{All}
 use Rattle.command_groups.proofs.Flat.{folders_back, folders_front, none_of_both, places_more}
 use Rattle.command_groups.specs.Groups.{stores_of}
-use Rattle.command_groups.specs.Opened.{AreUnused, IsFresh, IsGroupAt, OpensGroups, all_locations, files_in, locations_in}
+use Rattle.command_groups.specs.Opened.{AreUnused, IsFresh, IsGroupAt, OpensGroups, files_in, locations_in}
 use Rattle.command_outcome.specs.declared.outcome.Outcome.{Outcome}
 use Rattle.command_outcome.specs.declared.outcome.Outcome.TheVariants as ends
 use Rattle.command_steps.proofs.Consulted.{reads_none}

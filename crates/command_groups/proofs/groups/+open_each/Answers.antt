@@ -1,4 +1,4 @@
-use Rattle.std.proofs.Common.{◌≤◌, List, [], ap, length, map, rules, subst, sym}
+use Rattle.std.proofs.Common.{◌≤◌, List, [], ap, length, rules, subst, sym}
 use Rattle.std.proofs.lemmas.List.Elements.{All-head, All-rest}
 use Rattle.std.proofs.lemmas.Result.{err_from_is_err_and}
 use Rattle.std.specs.List.{All}
