@@ -1,9 +1,8 @@
 -- Groups of stores when they are given back.
-use Rattle.std.proofs.Common.{◌≡◌, ◌∙◌, ◌+◌, ◌++◌, ◌<◌, ◌≤◌, ℕ, zero, suc, List, [], ◌∷◌, length, map, slice_index, slice_index_or, sym, ap, arith}
-use Rattle.std.proofs.lemmas.List.{length-append, length-map}
+use Rattle.std.proofs.Common.{◌≡◌, ◌∙◌, ◌<◌, ℕ, zero, suc, List, [], ◌∷◌, length, map, slice_index, slice_index_or, sym, ap, arith}
+use Rattle.std.proofs.lemmas.List.{length-map}
 use Rattle.std.proofs.lemmas.List.Elements.{All-head, All-tail}
 use Rattle.std.specs.List.{All}
-use Rattle.command_groups.specs.Groups.{AreGroups, stores_of}
 use Rattle.command_groups.specs.Opened.{IsGroupGiven, locations_in}
 use Rattle.command_steps.specs.AnyStores.{location_in}
 use Rattle.command_steps.specs.Sources.{Storage}
@@ -12,22 +11,6 @@ use Rattle.command_words.specs.declared.command.Location.{Location}
 use Rattle.dsy_base.specs.Links.{DialState}
 use Rattle.store_chain.proofs.Pairs.{cons_head, cons_tail}
 use Rattle.store_group.specs.Groups.{Grouped}
-
--- there are as many groups as stores at most
-few_groups : (groups : List (List Location)) → All (λ (g : List Location). 1 ≤ length g) groups → length groups ≤ length (stores_of groups)
-few_groups [] each = omega arith
-few_groups (g ∷ groups) each =
-    let one = All-head (λ (g : List Location). 1 ≤ length g) g groups each in
-    let others = few_groups groups (All-tail (λ (g : List Location). 1 ≤ length g) g groups each) in
-    let both : length (g ++ stores_of groups) ≡ length g + length (stores_of groups) = length-append g (stores_of groups) in
-    omega (arith, one, others, both)
-
--- a chain takes the groups that were opened
-pub opened_many : {S : Type 0} (locations : S → List Location) (groups : List (List Location)) (again : ℕ) (items : List S) → map locations items ≡ groups → AreGroups groups again → (1 ≤ length items) × (length items ≤ 16)
-opened_many locations groups again items same are =
-    let many : length items ≡ length groups = sym (length-map items locations) ∙ ap length same in
-    let few = few_groups groups are.each in
-    (omega (arith, many, are.some), omega (arith, many, few, are.few))
 
 module _ {L D K : Type 0} (place : L → List ℕ) (faults : L → ℕ) (state : D → DialState) where
   -- the active store of a group is one of those that its words name

@@ -1,8 +1,7 @@
 -- What stores of folders hold, and how counting in them ends.
-use Rattle.std.proofs.Common.{◌≡◌, ◌<◌, ◌≤◌, ◌+◌, ◌++◌, ℕ, suc, arith, All, Bool, true, false, if◌then◌else◌, [], ◌∷◌, length, inl, inr, refl, sym, ap, subst, List, map, Option, Some, None, IfSome, ◌∙◌}
+use Rattle.std.proofs.Common.{◌≡◌, ◌<◌, ◌≤◌, ◌+◌, ℕ, suc, arith, All, Bool, true, false, if◌then◌else◌, [], ◌∷◌, length, inl, inr, refl, sym, subst, List, map, Option, Some, None, IfSome, ◌∙◌}
 use Rattle.std.specs.List.{AllZip}
-use Rattle.std.proofs.lemmas.List.{length-append, length-map}
-use Rattle.std.proofs.lemmas.List.Elements.{All-cons, All-head, All-nil, All-tail, length_all_zip}
+use Rattle.std.proofs.lemmas.List.Elements.{All-cons, All-nil, length_all_zip}
 use Rattle.caibx_codec.specs.Listing.{Listing, count_of, id_of}
 use Rattle.chunk_store.specs.Said.{KeepsOf, Said}
 use Rattle.store_chain.specs.Refusals.{HasFails}
@@ -12,24 +11,8 @@ use Rattle.chunk_store.specs.Folders.{chunks}
 use Rattle.dsy_base.specs.Maps.{Map}
 use Rattle.verify_tool.specs.Counts.{AsksBefore, DeniesOthers, FailsAtEntry, held_count, is_listed_before}
 use Rattle.command_words.specs.declared.command.Location.{Location}
-use Rattle.command_groups.specs.Groups.{AreGroups, group_files, stores_of}
+use Rattle.command_groups.specs.Groups.{group_files}
 use Rattle.store_commands.specs.Info.{asks_once}
-
--- there are as many groups as stores at most
-few_groups : (groups : List (List Location)) → All (λ (g : List Location). 1 ≤ length g) groups → length groups ≤ length (stores_of groups)
-few_groups [] each = omega arith
-few_groups (g ∷ groups) each =
-    let one = All-head (λ (g : List Location). 1 ≤ length g) g groups each in
-    let others = few_groups groups (All-tail (λ (g : List Location). 1 ≤ length g) g groups each) in
-    let both : length (g ++ stores_of groups) ≡ length g + length (stores_of groups) = length-append g (stores_of groups) in
-    omega (arith, one, others, both)
-
--- a chain takes the groups that were opened
-pub opened_many : {S : Type 0} (locations : S → List Location) (groups : List (List Location)) (again : ℕ) (items : List S) → map locations items ≡ groups → AreGroups groups again → (1 ≤ length items) × (length items ≤ 16)
-opened_many locations groups again items same are =
-    let many : length items ≡ length groups = sym (length-map items locations) ∙ ap length same in
-    let few = few_groups groups are.each in
-    (omega (arith, many, are.some), omega (arith, many, few, are.few))
 
 -- the count is exact where the groups are one folder each that tells
 pub counted_told : {S : Type 0} (folders : Option (Map (Map (List ℕ)))) (groups : List (List Location)) (l : Listing) (files holds : S → Option (Map (List ℕ))) (xs : List S) (n : ℕ)

@@ -1,8 +1,8 @@
 use Rattle.std.proofs.Common.{◌∙◌, [], All, List, Ok, Err, Some, ap, inl, inr, map, refl, subst, sym}
 use Rattle.cache_command.proofs.AlikeChains.{just_reached}
-use Rattle.cache_command.proofs.GivenGroups.{opened_many}
 use Rattle.cache_command.proofs.cache.reach.Goals as goal
 use Rattle.cache_store.specs.Shelves.{shelf_of}
+use Rattle.command_groups.proofs.Stand.{groups_many}
 use Rattle.command_groups.specs.Groups.{stores_of}
 use Rattle.command_groups.specs.Opened.{locations_in}
 use Rattle.command_steps.proofs.Cached.{cache_longer, cache_reads}
@@ -21,7 +21,7 @@ open_groups-requires g c = record { each = c.requires.groups.each }
 
 pub filling_of-requires : goal.filling_of-requires
 filling_of-requires g c =
-    record { size = opened_many (locations_in g.F.Look.Look.place) c.args.groups.now c.args.retries c.in-Ok.opened.items c.in-Ok.ensures.located c.requires.groups }
+    record { size = groups_many (locations_in g.F.Look.Look.place) c.args.groups.now c.args.retries c.in-Ok.opened.items c.in-Ok.ensures.located c.requires.groups }
 
 pub drop_chains-requires : goal.drop_chains-requires
 drop_chains-requires g c =

@@ -1,6 +1,6 @@
 use Rattle.std.proofs.Common.{◌≡◌, ◌∙◌, All, IfSome, List, ap, map, subst, sym}
-use Rattle.cache_command.proofs.GivenGroups.{opened_many}
 use Rattle.cache_command.proofs.chains.open_chain.Goals as goal
+use Rattle.command_groups.proofs.Stand.{groups_many}
 use Rattle.command_groups.specs.Groups.{stores_of}
 use Rattle.command_groups.specs.Opened.{AreUnused, IsFresh, files_in, locations_in}
 use Rattle.command_steps.specs.AnyStores.{IsKnown, source_faults}
@@ -12,7 +12,7 @@ open_groups-requires g c = record { each = c.requires.groups.each }
 
 pub new-requires : goal.new-requires
 new-requires g c =
-    record { size = opened_many (locations_in g.F.Look.Look.place) c.args.groups.now c.args.retries c.in-Ok.opened.items c.in-Ok.ensures.located c.requires.groups }
+    record { size = groups_many (locations_in g.F.Look.Look.place) c.args.groups.now c.args.retries c.in-Ok.opened.items c.in-Ok.ensures.located c.requires.groups }
 
 pub returns-in-Ok-clause-some : goal.returns-in-Ok-clause-some
 returns-in-Ok-clause-some g c =

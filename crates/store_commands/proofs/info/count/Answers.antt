@@ -6,7 +6,7 @@ use Rattle.caibx_codec.specs.Listing.{id_of}
 use Rattle.chunk_store.specs.Said.{KeepsOf}
 use Rattle.command_groups.proofs.Asked.{groups_undialed}
 use Rattle.command_groups.proofs.Lacked.{group_fails_first}
-use Rattle.command_groups.proofs.Stand.{groups_hold, groups_tell}
+use Rattle.command_groups.proofs.Stand.{groups_hold, groups_many, groups_tell}
 use Rattle.command_groups.proofs.Words.{group_words}
 use Rattle.command_groups.specs.Asking.{with_retries}
 use Rattle.command_groups.specs.Groups.{stores_of}
@@ -17,7 +17,7 @@ use Rattle.command_steps.specs.AnyStores.{said_in}
 use Rattle.command_steps.specs.Asking.{Asks, AsksOnly}
 use Rattle.command_steps.specs.Sources.{storage}
 use Rattle.store_commands.proofs.CountedGroups.{asked_after, consulted_after, known_after, located_after, standing_after}
-use Rattle.store_commands.proofs.Counting.{counted_told, ended_by, opened_many, others_denied}
+use Rattle.store_commands.proofs.Counting.{counted_told, ended_by, others_denied}
 use Rattle.store_commands.proofs.info.count.Goals as goal
 use Rattle.store_commands.specs.Info.{asks_once}
 use Rattle.store_group.specs.Groups.{said_of}
@@ -30,7 +30,7 @@ open_groups-requires g c =
 pub with_kind-chain-requires : goal.with_kind-chain-requires
 with_kind-chain-requires g c =
     let some : 1 ≤ length c.args.groups.now = grind (arith, common_steps) in
-    record { size = opened_many (locations_in g.F.Look.Look.place) c.args.groups.now c.args.retries c.in_ok-opened.opened.items c.in_ok-opened.ensures.located (c.requires some) }
+    record { size = groups_many (locations_in g.F.Look.Look.place) c.args.groups.now c.args.retries c.in_ok-opened.opened.items c.in_ok-opened.ensures.located (c.requires some) }
 
 pub close_groups-requires : goal.close_groups-requires
 close_groups-requires g c =
