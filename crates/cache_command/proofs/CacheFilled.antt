@@ -14,7 +14,7 @@ use Rattle.chunk_store.specs.declared.store.Store.{Ghosts as StoreWords}
 use Rattle.command_groups.proofs.Given.{group_given_earlier}
 use Rattle.command_groups.proofs.Lacked.{groups_lack}
 use Rattle.command_groups.proofs.Quiet.{groups_quiet}
-use Rattle.command_groups.proofs.Stand.{found_after, fresh_counts, groups_tell}
+use Rattle.command_groups.proofs.Stand.{active_inside, found_after, fresh_counts, groups_tell}
 use Rattle.command_groups.proofs.Standing.{Standing, all_groups_stand}
 use Rattle.command_groups.proofs.Words.{group_words}
 use Rattle.command_groups.specs.Groups.{group_files, stores_of}
@@ -38,7 +38,6 @@ use Rattle.command_worlds.specs.Worlds.{Adds, DiskQuiet, FolderRose, Reads, worl
 use Rattle.command_steps.specs.declared.any_store.AnyStore.{AnyStore}
 use Rattle.command_steps.proofs.Taken.{at_name_twice}
 use Rattle.command_steps.proofs.Lacked.{same_length}
-use Rattle.cache_command.proofs.GivenGroups.{active_inside}
 use Rattle.cache_command.proofs.Renumbered.{IsAnswerAs, IsFaultAs, IsOutcomeAs, IsSame, IsTold, fault_as, filled_as, fills_as, memory_as, same_answer, spelled_as, told_answer, told_lack, told_maps}
 use Rattle.cache_command.specs.Caching.{HoldsFirst, AddsListed, AllFilled, CacheEnds, EndsFilling, Evidence, FillExactly, FillTells, FilledBetween, FillsEach, IndexFilled, IsHeldListed, IsNotHad, NotFilled, StopsFilling, answer_of_fill, of_calls, of_command, outcome_of_fill, GetsListed}
 use Rattle.dsy_base.proofs.Counts.{at_same}
@@ -373,7 +372,7 @@ module _ {L D K : Type 0} (look : LookWords L) (state : D → DialState) (again 
 
   refuse : (c : Query) (r n : Refused) → IsTold names active r n → (of_calls (group_words look state) before after 0 t.faults).refused c r → HaveLackedIn again c w v names n
   refuse c r n is h =
-      told_lack names active (active_inside look.place look.faults state w v after names located given_all) again w v c r n is
+      told_lack names active (active_inside look.place after names located (λ n g lt. (given_all n g lt).active)) again w v c r n is
       (groups_lack (locations_in look.place) (λ g. said_of (said_in look.files state) g.stores) (λ g. g.failed) again w v names true c r h.0 after h.1 located stand h.2)
 
   pub filled_between : (most : ℕ) (indexes : List (List ℕ)) (r : Result Unit Outcome) → FillsEach (of_calls (group_words look state) before after 0 t.faults) (storage d0 i) (storage b k) indexes s.files t.files r
@@ -383,7 +382,7 @@ module _ {L D K : Type 0} (look : LookWords L) (state : D → DialState) (again 
     was = subst (λ (q : List ℕ). IfSome d.folders (λ m. m q ≡ s.files)) s_is (was_put d0.folders s.place s.files);
     now = t.files;
     filled = fills_wider (of_calls (group_words look state) before after 0 t.faults) (of_command again w v names cache) held none_failed
-        (IsTold names active) refuse refl (λ fs told c r n is lacks. told_maps names active (active_inside look.place look.faults state w v after names located given_all) d.folders fs told c r n is lacks) cache_failed
+        (IsTold names active) refuse refl (λ fs told c r n is lacks. told_maps names active (active_inside look.place after names located (λ n g lt. (given_all n g lt).active)) d.folders fs told c r n is lacks) cache_failed
         (storage d0 i) (storage b k) w v part indexes s.files t.files r (answer_of_stores names active r) (told_answer names active r) h;
     back = back;
     adds = all_adds;

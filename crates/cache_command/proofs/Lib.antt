@@ -1,5 +1,4 @@
 pub mod Renumbered
-pub mod GivenGroups
 pub mod CacheFilled
 pub mod AskedListings
 pub mod LentChains
