@@ -14,17 +14,20 @@ use Rattle.command_groups.proofs.Stand.{sizes_stand}
 use Rattle.command_groups.proofs.Words.{group_words}
 use Rattle.command_groups.specs.Groups.{stores_of}
 use Rattle.command_groups.specs.Numbers.{answer_of_stores}
-use Rattle.command_groups.specs.Opened.{IsGroupGiven, files_in, locations_in, with_group}
+use Rattle.command_groups.specs.Opened.{IsFresh, IsGroupGiven, files_in, locations_in, with_group}
 use Rattle.command_indexes.proofs.Spelled.{IsPart}
 use Rattle.command_steps.proofs.Cached.{given_adds}
 use Rattle.command_steps.proofs.Dialed.{dials_none}
 use Rattle.command_steps.proofs.Given.{all_later}
-use Rattle.command_steps.specs.AnyStores.{IsKnown}
+use Rattle.command_steps.specs.AnyStores.{IsKnown, source_faults}
 use Rattle.command_steps.specs.Cache.{CacheGiven, with_cache}
 use Rattle.command_steps.specs.Sources.{ConsultsStores, location_files, storage}
+use Rattle.command_steps.specs.declared.any_store.AnyStore.{AnyStore}
 use Rattle.command_words.specs.declared.command.Location.{Location}
 use Rattle.command_worlds.specs.Worlds.{Adds}
 use Rattle.std.specs.Prelude.{IfSome}
+use Rattle.store_chain.specs.Chains.{Chained}
+use Rattle.store_group.specs.Groups.{Grouped}
 
 pub numbered-answer-requires : goal.numbered-answer-requires
 numbered-answer-requires g c =
@@ -38,7 +41,7 @@ numbered-answer-requires g c =
     let sizes = sizes_stand look.place c.into_stores-groups.result.items names located in
     record {
       few = rw c.as_slice.ensures c.requires.groups.few;
-      sizes = rw (c.as_slice.ensures, c.as_slice-2.ensures) sizes;
+      sizes = rw (c.as_slice.ensures, c.as_slice-2.ensures.value) sizes;
     }
 
 pub give_shelf-requires : goal.give_shelf-requires
@@ -119,10 +122,11 @@ returns g c =
     let j = state c.close_groups.new.dial in
     let asked = over.asks in
     let fresh = c.requires.reached.fresh in
+    let fresh_first = All-head (λ (x : Chained (Grouped (AnyStore g.row.F-Look.Denot g.row.D.Denot g.row.D-Link.Denot))). All (IsFresh (source_faults look.faults state) again) x.stores) first more fresh in
     let last : c.into_stores-groups.result.items ≡ after = c.into_stores-groups.ensures.value ∙ ap (λ p. p.1.stores) c.into_parts-shelf.ensures in
     let given : c.into_parts-shelf.result.0 ≡ c.fill_each-filling.result.0.cached.shelf = ap (λ p. p.0) c.into_parts-shelf.ensures in
     let located : map (locations_in look.place) after ≡ names = chain_stands look state asked.0 first chain asked.2.0 ∙ c.requires.located in
-    let all_located = λ x y lt. c.requires.reached.located x y lt ∙ c.requires.located in
+    let all_located : All (λ x. chain_groups look x ≡ names) more = λ x y lt. c.requires.reached.located x y lt ∙ c.requires.located in
     let stand = chains_stand look state asked.0 names more further asked.2.1 all_located in
     let turn = c.close_chains.ensures.given in
     let at_cache = subst (λ (q : List ℕ). CacheGiven (Some (shelf_of D.files D.place D.faults c.into_parts-shelf.result.0)) b m) c.as_str.ensures c.give_shelf.ensures.given in
@@ -150,11 +154,11 @@ returns g c =
     let many : length more ≡ length further = length_all_zip (AsksListings _ asked.0) more further asked.2.1 in
     let found = subst (λ ns. IfSome (with_cache (Some s) d0).folders (λ m. map (files_in look.files) first.stores ≡ map (map (location_files m)) ns)) c.requires.located c.requires.reached.found in
     let between = filled_between look state again cache s t d0 b m e n k j names first.stores after c.requires.reached.cache_named (over.place ∙ c.requires.reached.cache_named) had.reads gives all_closed
-    (All-head (λ c. All _ c.stores) first more fresh) located (chain_tries look state asked.0 again first chain asked.2.0 (All-head (λ c. All _ c.stores) first more fresh)) (chain_files look state asked.0 first chain asked.2.0) asked.2.0.keeps.files found all_gained part
+    fresh_first located (chain_tries look state asked.0 again first chain asked.2.0 fresh_first) (chain_files look state asked.0 first chain asked.2.0) asked.2.0.keeps.files found all_gained part
     (1 + length more) indexes filled at_zero had.undialed
     (record { listings = asked.0; read = front_wider (storage (with_cache (Some s) d0) n) (storage d0 n) (storage b k) (storage e j) part indexes asked.0 read; ended = k.ended; fetches = had.asks; workers = 1 + length further; some = omega arith; few = omega (arith, many); gets = gets }) in
-    let answer : c.numbered-answer.result ≡ answer_of_stores names (map (λ g. g.active) after) filled =
+    let answer : c.numbered-answer.result ≡ answer_of_stores names (map (λ h. h.active) after) filled =
     c.numbered-answer.ensures.value
-    ∙ ap (λ (l : List (List Location)). answer_of_stores l (map (λ g. g.active) c.as_slice-2.result.now) filled) c.as_slice.ensures
-    ∙ ap (λ xs. answer_of_stores names (map (λ g. g.active) xs) filled) (c.as_slice-2.ensures ∙ last) in
+    ∙ ap (λ (l : List (List Location)). answer_of_stores l (map (λ h. h.active) c.as_slice-2.result.now) filled) c.as_slice.ensures
+    ∙ ap (λ (xs : List (Grouped (AnyStore g.row.F-Look.Denot g.row.D.Denot g.row.D-Link.Denot))). answer_of_stores names (map (λ h. h.active) xs) filled) (c.as_slice-2.ensures.value ∙ last) in
     record { filled = subst (λ r. FilledBetween names again cache (1 + length more) indexes (storage (with_cache (Some s) d0) n) (storage e j) r) (sym answer) between }

@@ -1,4 +1,4 @@
-use Rattle.std.proofs.Common.{◌≡◌, ◌∙◌, All, IfSome, List, ap, map, subst, sym}
+use Rattle.std.proofs.Common.{◌≡◌, ◌∙◌, All, IfSome, List, ap, map, rules, subst, sym}
 use Rattle.cache_command.proofs.chains.open_chain.Goals as goal
 use Rattle.command_groups.proofs.Stand.{groups_many}
 use Rattle.command_groups.specs.Groups.{stores_of}
@@ -12,7 +12,8 @@ open_groups-requires g c = record { each = c.requires.groups.each }
 
 pub new-requires : goal.new-requires
 new-requires g c =
-    record { size = groups_many (locations_in g.F.Look.Look.place) c.args.groups.now c.args.retries c.in-Ok.opened.items c.in-Ok.ensures.located c.requires.groups }
+    let few = groups_many (locations_in g.F.Look.Look.place) c.args.groups.now c.args.retries c.in-Ok.opened.items c.in-Ok.ensures.located c.requires.groups in
+    search rules
 
 pub returns-in-Ok-clause-some : goal.returns-in-Ok-clause-some
 returns-in-Ok-clause-some g c =

@@ -28,7 +28,7 @@ returns-clause-filled g c =
     let new = c.fill-filled.new.cached in
     let over = c.fill-filled.ensures in
     let r = c.fill-filled.result in
-    let filled = index_filled store g.met.S.Store.lies l (shelf_of W.files W.place W.faults old.shelf) (shelf_of W.files W.place W.faults new.shelf) old.chain new.chain
+    let filled = index_filled store (g.met.S.Store g.world.𝓛 g.world.𝓜 g.world.𝓡 ((λ s y. y), (λ y. y), (λ y. y), (λ y. y))).lies l (shelf_of W.files W.place W.faults old.shelf) (shelf_of W.files W.place W.faults new.shelf) old.chain new.chain
     over.stores r over.order over.stocks over.holds over.exactly in
     let by_stores = subst (λ xs. IndexFilled (of_calls store xs new.chain.stores (W.faults old.shelf.folder) (W.faults new.shelf.folder)) l (W.files old.shelf.folder) (W.files new.shelf.folder) r) made.stores filled in
     let by_folder = subst (λ f. IndexFilled (of_calls store c.args.filling.cached.chain.stores new.chain.stores (W.faults f) (W.faults new.shelf.folder)) l (W.files f) (W.files new.shelf.folder) r) made.folder by_stores in
