@@ -1,4 +1,4 @@
-use Rattle.std.proofs.Common.{◌<◌, ◌≤◌, ℕ, List, arith, inr, length}
+use Rattle.std.proofs.Common.{◌<◌, ◌≤◌, ℕ, List, arith, inr, length, rules}
 use Rattle.std.proofs.lemmas.Grind.{common_steps}
 use Rattle.std.proofs.lemmas.List.Elements.{length_all_zip}
 use Rattle.caibx_codec.specs.Asks.{IsListedHas}
@@ -25,12 +25,13 @@ use Rattle.store_group.specs.Groups.{said_of}
 pub open_groups-requires : goal.open_groups-requires
 open_groups-requires g c =
     let some : 1 ≤ length c.args.groups.now = grind (arith, common_steps) in
-    record { each = (c.requires some).each }
+    record { each = (c.requires.groups some).each }
 
 pub with_kind-chain-requires : goal.with_kind-chain-requires
 with_kind-chain-requires g c =
     let some : 1 ≤ length c.args.groups.now = grind (arith, common_steps) in
-    record { size = groups_many (locations_in g.F.Look.Look.place) c.args.groups.now c.args.retries c.in_ok-opened.opened.items c.in_ok-opened.ensures.located (c.requires some) }
+    let few = groups_many (locations_in g.F.Look.Look.place) c.args.groups.now c.args.retries c.in_ok-opened.opened.items c.in_ok-opened.ensures.located (c.requires.groups some) in
+    search rules
 
 pub close_groups-requires : goal.close_groups-requires
 close_groups-requires g c =
@@ -49,7 +50,7 @@ close_groups-requires g c =
 pub first_store-store-requires : goal.first_store-store-requires
 first_store-store-requires g c =
     let some : 1 ≤ length c.args.groups.now = grind (arith, common_steps) in
-    record { few = (c.requires some).few }
+    record { few = (c.requires.groups some).few }
 
 pub returns-in_err-opened-clause-kept : goal.returns-in_err-opened-clause-kept
 returns-in_err-opened-clause-kept g c = only_read (g.F.Files.disk c.args.files.now) (g.F.Files.disk c.open_groups.new.files) (g.D.Dial.state c.args.dial.now) (stores_of c.args.groups.now) c.in_err-opened.ensures.kept
