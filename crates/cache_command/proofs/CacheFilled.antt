@@ -50,7 +50,6 @@ use Rattle.image_store.specs.PutChunks.{IsListedId as IsAmong}
 use Rattle.store_chain.specs.Chains.{Chained, KeepsStores}
 use Rattle.store_chain.specs.Faults.{EachQuiet, NoneFalls}
 use Rattle.store_chain.specs.Giving.{LacksAll}
-use Rattle.store_chain.specs.Refusals.{Refuses}
 use Rattle.store_chain.specs.declared.refused.Refused.{Refused}
 use Rattle.store_chain.specs.declared.refused.Refused.TheVariants as refused
 use Rattle.store_chain.specs.declared.query.Query.{Query}

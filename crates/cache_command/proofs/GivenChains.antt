@@ -1,5 +1,5 @@
 -- The chains of all workers when they are given back.
-use Rattle.std.proofs.Common.{◌≡◌, ◌∙◌, ℕ, suc, ◌+◌, ◌<◌, ◌≤◌, List, ◌∷◌, All, length, map, Option, refl, arith, slice_index_or}
+use Rattle.std.proofs.Common.{◌≡◌, ◌∙◌, ℕ, suc, ◌+◌, ◌<◌, List, ◌∷◌, All, length, map, Option, refl, arith, slice_index_or}
 use Rattle.std.proofs.lemmas.List.Elements.{AllZip-get_or, length_all_zip}
 use Rattle.std.specs.List.{AllZip, fold}
 use Rattle.cache_command.proofs.LentChains.{chains_consult}
@@ -25,7 +25,6 @@ use Rattle.command_steps.specs.declared.any_store.AnyStore.{AnyStore}
 use Rattle.command_words.specs.declared.command.Location.{Location}
 use Rattle.dsy_base.specs.Links.{DialState, Traffic}
 use Rattle.dsy_base.specs.declared.look.Look.{Ghosts as LookWords}
-use Rattle.http_read.specs.Asks.{Server}
 use Rattle.store_chain.specs.Chains.{Chained}
 use Rattle.store_group.specs.Groups.{Grouped}
 

@@ -1,5 +1,5 @@
 -- Answers that name a store by another number. N says which refusals are told as which.
-use Rattle.std.proofs.Common.{◌≡◌, ◌∙◌, ◌+◌, ◌<◌, ◌≤◌, ℕ, zero, suc, List, [], ◌∷◌, length, map, slice_index, slice_index_or, Option, Some, None, IsSomeAnd, Result, Ok, Err, refl, sym, ap, subst, arith}
+use Rattle.std.proofs.Common.{◌≡◌, ◌∙◌, ◌+◌, ◌<◌, ℕ, zero, suc, List, [], ◌∷◌, length, map, slice_index, slice_index_or, Option, Some, None, IsSomeAnd, Result, Ok, Err, refl, sym, ap, subst, arith}
 use Rattle.std.proofs.lemmas.List.{length-map}
 use Rattle.cache_command.specs.Caching.{outcome_of_fill}
 use Rattle.cache_fill.specs.Filling.{FillsBy, filled_to}

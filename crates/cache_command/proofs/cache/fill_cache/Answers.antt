@@ -1,4 +1,4 @@
-use Rattle.std.proofs.Common.{◌≡◌, ◌+◌, ◌≤◌, ◌∙◌, Some, arith, length, max}
+use Rattle.std.proofs.Common.{◌+◌, ◌≤◌, Some, arith, length, max}
 use Rattle.cache_command.proofs.AskedListings.{more_workers}
 use Rattle.cache_command.proofs.CacheFilled.{cache_ends, not_reached}
 use Rattle.cache_command.proofs.cache.fill_cache.Goals as goal

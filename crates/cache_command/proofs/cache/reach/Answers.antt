@@ -1,4 +1,4 @@
-use Rattle.std.proofs.Common.{◌∙◌, [], All, List, Ok, Err, Some, ap, inl, inr, map, refl, subst, sym}
+use Rattle.std.proofs.Common.{◌∙◌, [], All, List, Ok, Err, Some, ap, inl, inr, map, subst, sym}
 use Rattle.cache_command.proofs.AlikeChains.{just_reached}
 use Rattle.cache_command.proofs.cache.reach.Goals as goal
 use Rattle.cache_store.specs.Shelves.{shelf_of}

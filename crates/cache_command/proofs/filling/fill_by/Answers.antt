@@ -1,4 +1,4 @@
-use Rattle.std.proofs.Common.{◌≡◌, ◌∙◌, [], ◌∷◌, All, map, refl, subst}
+use Rattle.std.proofs.Common.{◌≡◌, ◌∙◌, [], ◌∷◌, All, map, subst}
 use Rattle.cache_command.proofs.AskedListings.{alike_on, all_listed, remade_alike, remade_asked}
 use Rattle.cache_command.proofs.CacheFilled.{index_filled}
 use Rattle.cache_command.proofs.filling.fill_by.Goals as goal
