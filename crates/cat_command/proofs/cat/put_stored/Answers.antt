@@ -1,14 +1,16 @@
-use Rattle.std.proofs.Common.{◌≡◌, ◌∙◌, ◌≤◌, ◌<◌, ◌+◌, ℕ, All, List, [], Option, IfSome, Ok, length, map, refl, ap, subst, sym}
+use Rattle.std.proofs.Common.{◌≡◌, ◌∙◌, ◌≤◌, ◌+◌, ℕ, All, List, [], Option, IfSome, Ok, Result, map, refl, rules, ap, subst, sym}
 use Rattle.cat_command.proofs.Between.{ends_between, then_so}
 use Rattle.cat_command.proofs.Given.{each_weaker}
-use Rattle.cat_command.specs.Cat.{RangePut, asked_times, kept_chunks}
+use Rattle.cat_command.specs.Cat.{EndsRange, RangePut, asked_times, kept_chunks}
 use Rattle.chunk_store.specs.declared.store.Store.{Ghosts as StoreWords}
 use Rattle.command_groups.proofs.Asked.{groups_asked}
 use Rattle.command_groups.proofs.Stand.{active_inside, folders_still, found_after, fresh_tries, groups_hold, groups_many, groups_stand_still, groups_tell, groups_try_still, sizes_stand}
 use Rattle.command_groups.proofs.Standing.{all_groups_stand}
 use Rattle.command_groups.proofs.Words.{group_words}
 use Rattle.command_groups.specs.Groups.{stores_of}
-use Rattle.command_groups.specs.Opened.{all_locations, files_in, locations_in, told_files}
+use Rattle.command_groups.specs.Numbers.{answer_of_stores}
+use Rattle.command_groups.specs.Opened.{files_in, locations_in, told_files}
+use Rattle.command_outcome.specs.declared.outcome.Outcome.{Outcome}
 use Rattle.command_steps.proofs.Asking.{none_more}
 use Rattle.command_steps.specs.AnyStores.{IsKnown, source_faults}
 use Rattle.command_steps.specs.Sources.{ConsultsStores, SourcesOpened, location_files, storage_of}
@@ -25,7 +27,8 @@ use Rattle.cat_command.proofs.cat.put_stored.Goals as goal
 
 pub with_kind-chain-requires : goal.with_kind-chain-requires
 with_kind-chain-requires g c =
-    record { size = groups_many (locations_in g.F.Look.Look.place) c.args.sources.now.groups c.args.sources.now.retries c.in_ok-opened.opened.items (c.in_ok-opened.ensures.located ∙ c.as_slice-groups.ensures) c.requires.groups }
+    let few = groups_many (locations_in g.F.Look.Look.place) c.args.sources.now.groups c.args.sources.now.retries c.in_ok-opened.opened.items (c.in_ok-opened.ensures.located ∙ c.as_slice-groups.ensures) c.requires.groups in
+    search rules
 
 pub numbered-answer-requires-clause-sizes : goal.numbered-answer-requires-clause-sizes
 numbered-answer-requires-clause-sizes g c =
@@ -90,4 +93,9 @@ returns g c =
     (each_weaker (λ a b. AsksWants (missed kept_chunks [] (wants_of l from n)) (words.asked a) (words.asked b)) (λ a b. (q : List ℕ) → words.asked b q ≤ words.asked a q + asked_times l from n q) (λ a b h. h.most) before after asks)
     (none_more words.queried before after queries) kept.sends located ended in
     let did : OnDisk (SourcesOpened (stores_of groups)) w (Ok tt) u = rw (sym named) ((opened.there, opened.kept, opened.used), refl, refl) in
-    record { ends = then_so (OnDisk (SourcesOpened (stores_of groups))) (λ _. RangePut groups e l from n) w u v tt c.numbered-answer.result did ? }
+    let put = c.put_from-chain.result.1 in
+    let answer : c.numbered-answer.result ≡ answer_of_stores groups (map (λ h. h.active) after) put =
+    c.numbered-answer.ensures.value ∙ ap (λ (names : List (List Location)). answer_of_stores names (map (λ h. h.active) c.as_slice.result.now) put) named
+    ∙ ap (λ (xs : List (Grouped (AnyStore g.row.F-Look.Denot g.row.D.Denot g.row.D-Link.Denot))). answer_of_stores groups (map (λ h. h.active) xs) put) (c.as_slice.ensures.value ∙ c.into_stores-asked.ensures.value) in
+    let put_so = subst (λ (r : Result Unit Outcome). EndsRange groups e l from n u v r) (sym answer) range in
+    record { ends = then_so (OnDisk (SourcesOpened (stores_of groups))) (λ _. RangePut groups e l from n) w u v tt c.numbered-answer.result did (put_so, subst (λ (names : List (List Location)). ConsultsStores (stores_of names) (storage_of u) (storage_of v)) located consults, asked, c.put_from-chain.ensures.faults) }
