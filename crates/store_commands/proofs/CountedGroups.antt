@@ -1,6 +1,6 @@
 -- Groups of stores that ids were counted in: what they have said and counted once they are given back.
-use Rattle.std.proofs.Common.{◌≡◌, ◌∙◌, ◌≤◌, ◌+◌, ℕ, List, [], ◌∷◌, length, map, All, Option, IfSome, slice_index_or, sym, subst}
-use Rattle.std.specs.List.{AllZip, fold}
+use Rattle.std.proofs.Common.{◌≡◌, ◌∙◌, ℕ, List, map, All, Option, IfSome, slice_index_or, sym, subst}
+use Rattle.std.specs.List.{fold}
 use Rattle.caibx_codec.specs.Asks.{IsListedHas}
 use Rattle.caibx_codec.specs.Listing.{Listing, count_of}
 use Rattle.command_groups.proofs.Asked.{groups_asked}
