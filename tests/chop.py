@@ -1,7 +1,7 @@
 #!/usr/bin/env python3
 """`desync chop -s FOLDER INDEX IMAGE` over real files: what the store holds afterwards, compared with tests/formats.py.
 
-DESYNC names another program.
+DESYNC names the program to run, if it is another one.
 """
 
 import os

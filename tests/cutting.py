@@ -4,7 +4,7 @@
     tests/cutting.py             the program, over real files, other sizes of chunks and an image of 4 GiB
     tests/cutting.py --pieces    the library too, in a program that `rt` builds first, which takes minutes
 
-DESYNC names another program. Where casync is installed its cuts and ids are compared too.
+DESYNC names the program to run, if it is another one. Where casync is installed its cuts and ids are compared too.
 """
 
 import os

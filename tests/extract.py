@@ -4,7 +4,7 @@
 Each case lays out a folder, runs the program in it, and compares the exit status, the error line, every byte of
 the output, and all else in the folder with what stood there before.
 
-DESYNC names another program.
+DESYNC names the program to run, if it is another one.
 """
 
 import os

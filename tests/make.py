@@ -1,7 +1,7 @@
 #!/usr/bin/env python3
 """`desync make -s FOLDER INDEX IMAGE` over real files, compared with tests/formats.py; and make, then extract.
 
-DESYNC names another program.
+DESYNC names the program to run, if it is another one.
 """
 
 import json

@@ -1,4 +1,4 @@
-//! Caches filled from a folder store, all in memory. The names are from FIPS 180-4's example and another program.
+//! Caches filled from a folder store, all in memory. The digests are those of `indexes`.
 
 ghost use Rattle.std.specs.Prelude.{◌≡◌};
 ghost use Rattle.chunk_store.specs.declared.id.DigestKind.TheVariants as kinds;

@@ -1,5 +1,5 @@
-//! Caches filled with further workers, from stores in memory that wait for one another. The name of `abc` is from FIPS
-//! 180-4's examples, the others from another program.
+//! Caches filled with further workers, from stores in memory that wait for one another. The digests are
+//! those of `indexes`.
 
 ghost use Rattle.std.specs.Prelude.{◌≡◌, ◌∷◌, [], All, None, map};
 ghost use Rattle.chunk_store.specs.declared.id.DigestKind.TheVariants as kinds;

@@ -1,5 +1,5 @@
-//! The names of `abc` and of no bytes, in digits. Those of `abc` are from FIPS 180-4's examples, that of no bytes is
-//! from another program.
+//! The digests of `abc` and of no bytes, in digits. Those of `abc` are from FIPS 180-4's examples, that of no bytes is
+//! from `openssl dgst -sha512-256`.
 
 /// SHA-512/256 of `abc`.
 pub const ABC: &str = "53048e2681941ef99b2e29b76b4c7dabe4c2d0c634fc6d46e0e2f13107e7af23";

@@ -11,8 +11,8 @@ use dsy_base::name::Name;
 use dsy_forms::mem_folder::MemFolder;
 use std::process::Abort;
 
-// The digests are from FIPS 180-4's examples and another program: SHA-512/256 of `abc`, SHA-256 of `abc`, and
-// SHA-512/256 of nothing.
+// SHA-512/256 and SHA-256 of `abc`, from FIPS 180-4's examples, and SHA-512/256 of no bytes, from
+// `openssl dgst -sha512-256`.
 const CHUNKS: [&str; 3] = [
     "5304/53048e2681941ef99b2e29b76b4c7dabe4c2d0c634fc6d46e0e2f13107e7af23",
     "ba78/ba7816bf8f01cfea414140de5dae2223b00361a396177a9cb410ff61f20015ad",

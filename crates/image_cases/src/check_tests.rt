@@ -1,5 +1,5 @@
-//! Small indexes, checked, listed, described and looked for in stores. The names are from FIPS 180-4's example and
-//! another program.
+//! Small indexes, checked, listed, described and looked for in stores. The digests are those of
+//! `indexes`.
 
 use crate::calls::fails;
 use crate::compare::{ok, same};

@@ -1,4 +1,5 @@
-//! Cutting by vectors, and by what another program answers. Offsets and sizes are in bytes.
+//! Cutting by vectors, which are from `cut_points` and `window_hash` of tests/formats.py, written from the format's
+//! description. Offsets and sizes are in bytes.
 
 use crate::compare::{ok, same};
 use crate::images::{ENDS, mixed, sizes_of};
@@ -121,7 +122,6 @@ fn many_zeros_are_cut_at_the_greatest_size(rt: HostRuntime) {
     same(&rt, ends.as_slice(), [262_144, 524_288, 600_000].as_slice());
 }
 
-// The ends are those of another program.
 #[test]
 fn images_are_cut_by_their_bytes(rt: HostRuntime) {
     let alloc = rt.alloc();

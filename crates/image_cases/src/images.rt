@@ -15,7 +15,7 @@ use std::thread;
 // How many turns a view waits for the other one.
 const TURNS: u64 = 10_000_000;
 
-/// Where 3000 mixed bytes are cut by the sizes 64, 128 and 512, by another program.
+/// Where 3000 mixed bytes are cut by the sizes 64, 128 and 512, from `cut_points` of tests/formats.py.
 pub const ENDS: [u64; 22] = [
     109, 220, 360, 483, 602, 724, 1236, 1399, 1631, 1715, 1850, 1946, 2031, 2154, 2243, 2392, 2496,
     2652, 2775, 2872, 2945, 3000,

@@ -10,7 +10,7 @@ use chunk_store::id::{ChunkId, DigestKind};
 use std::alloc::Global;
 use std::process::Abort;
 
-/// SHA-512/256 of `abc`, from FIPS 180-4's examples. The three others are from another program.
+/// SHA-512/256 of `abc`, from FIPS 180-4's examples. The three others are from `openssl dgst -sha512-256`.
 pub const ABC: &str = "53048e2681941ef99b2e29b76b4c7dabe4c2d0c634fc6d46e0e2f13107e7af23";
 
 /// SHA-512/256 of `abX`.

@@ -1,4 +1,5 @@
-//! Small folder stores in memory, checked and pruned. The names are from FIPS 180-4's example and another program.
+//! Small folder stores in memory, checked and pruned. The digests are from FIPS 180-4's
+//! examples and `openssl dgst -sha512-256`.
 
 use crate::calls::fails;
 use crate::compare::{ok, same};

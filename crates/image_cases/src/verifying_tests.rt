@@ -1,5 +1,5 @@
-//! A store in memory that several workers check side by side, over folders that wait for one another. The names are
-//! from another program.
+//! A store in memory that several workers check side by side, over folders that wait for one another. The digests
+//! are those of `indexes`.
 
 use crate::compare::{ok, same};
 use crate::worker_tests::StoreGate;

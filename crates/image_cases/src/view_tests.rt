@@ -1,4 +1,5 @@
-//! Images indexed with any number of views, by what another program answers. Offsets and sizes are in bytes.
+//! Images indexed with any number of views. Their ends are from `cut_points` of tests/formats.py. Offsets and sizes are
+//! in bytes.
 
 ghost use Rattle.std.specs.Prelude.{◌<◌};
 

@@ -14,7 +14,7 @@ use std::process::Abort;
 use store_chain::chain::Chain;
 use store_forms::scripted_store::{Refuses, ScriptedStore};
 
-/// SHA-512/256 of `abc`, from FIPS 180-4's examples. The others are from another program.
+/// SHA-512/256 of `abc`, from FIPS 180-4's examples. The others are from `openssl dgst -sha512-256`.
 pub const ABC: &str = "53048e2681941ef99b2e29b76b4c7dabe4c2d0c634fc6d46e0e2f13107e7af23";
 
 /// SHA-512/256 of `abX`.

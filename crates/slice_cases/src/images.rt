@@ -1,5 +1,5 @@
-//! An image of six chunks, and views of it. The digests are from FIPS 180-4's example and another program
-//! (`openssl dgst -sha512-256`).
+//! An image of six chunks, and views of it. The digests are from FIPS 180-4's example and
+//! `openssl dgst -sha512-256`.
 
 ghost use Rattle.std.specs.Prelude.{◌≡◌, All, map};
 ghost use Rattle.image_slices.specs.Consumers.{IsAlike};

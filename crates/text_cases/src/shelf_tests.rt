@@ -135,7 +135,7 @@ fn is_sent<H: Shelf>(
     same(rt, link.sent(), sent);
 }
 
-// The path of `abd`, by another program.
+// The path of `abd`, whose digest is from `openssl dgst -sha512-256`.
 const ABD: &str = "72e5/72e5b67ed56db92b5d793c8610219bcb2e6c3fb70ac6a729fee72109b95498e8";
 
 const LENGTH_3: &str = " HTTP/1.1\r\nContent-Length: 3\r\n\r\n";
