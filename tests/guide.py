@@ -203,6 +203,8 @@ def told(cases, text):
         expect_equal(len(names[0] | names[1]), 8, 'the number of chunks of both')
         for lost in (names[1] - names[0], names[0] - names[1]):
             expect(all(name in text for name in lost), f'{lost} isn\'t told')
+        first = indexes[1].entries[0][1].hex()
+        expect(f'chunk {first} of entry 0 is missing' in text, 'the first chunk isn\'t told')
         expect(f'"size":{indexes[1].length()},' in text, 'the size isn\'t told')
 
 
