@@ -4,5 +4,6 @@
 
 mod chain;
 pub mod proxy_name;
+pub mod serve_cache;
 pub mod serve_proxy;
 pub mod shelf;

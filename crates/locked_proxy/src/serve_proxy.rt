@@ -20,24 +20,18 @@ use std::thread::Threads;
 /// A call that fails on a connection ends it alone.
 pub fn serve_proxy<
     L: Listen,
-    F: Folder + Send + Sync,
+    F: Folder + Send,
     S: Store + Send + Sync,
-    N: ProxyName + Send + Sync,
+    N: ProxyName + Send,
     R: Threads + Wait + Sync,
->(
-    rt: &R,
-    alloc: Global,
-    listen: &mut L,
-    shelf: &ProxyShelf<F, S, N>,
-) -> AllServed
+>(rt: &R, alloc: Global, listen: &mut L, shelf: &ProxyShelf<F, S, N>) -> AllServed
 where
     L::Link: Send,
     ensures end { result ≡ AllServed.Ended → (L.state listen.new).coming ≡ Some [] }
     ensures served { result ≢ AllServed.Memory →
         ServesAll (EndsThrough (kind_named F.kind) F.opening N.maps F.never_fails S.never_fails L.Link.tells)
         (L.state listen.old) (L.state listen.new) }
-    ensures lacking {
-        ServesSome (EndsThrough (kind_named F.kind) F.opening N.maps F.never_fails S.never_fails L.Link.tells)
+    ensures lacking { ServesSome (EndsThrough (kind_named F.kind) F.opening N.maps F.never_fails S.never_fails L.Link.tells)
         (L.state listen.old) (L.state listen.new) }
     ensures cause { result ≡ AllServed.ListenFault → Rose (L.state listen.old).faults (L.state listen.new).faults }
     ensures faults { (L.state listen.old).faults ≤ (L.state listen.new).faults }

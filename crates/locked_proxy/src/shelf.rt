@@ -32,7 +32,7 @@ use std::sync::Wait;
 use store_chain::chain::Chain;
 use store_chain::refused::Refused;
 
-type ChainLock<S, N> = HandLock<KeptChain<S, N>>;
+type ChainLock<F, S, N> = HandLock<KeptChain<F, S, N>>;
 
 /// A cache and chains of stores that threads share. The cache's lock is held while a chunk's file is read or written, a
 /// chain's while its stores are asked, and no longer.
@@ -40,7 +40,8 @@ type ChainLock<S, N> = HandLock<KeptChain<S, N>>;
 pub struct ProxyShelf<F: Folder, S: Store, N: ProxyName> {
     alloc: Global,
     cache: LockedShelf<F>,
-    chains: Vec<ChainLock<S, N>>,
+    // The last chain's first.
+    chains: Vec<ChainLock<F, S, N>>,
     room: Vec<Chain<S>>,
 }
 
@@ -52,7 +53,7 @@ impl<F: Folder, S: Store, N: ProxyName> Model for ProxyShelf<F, S, N> {
 
     ghost view = { λ s. record { chains = length s.chains.items } };
 
-    ghost invariant = { λ s. (s.cache.kind ≡ N.kind) × (0 < length s.chains.items)
+    ghost invariant = { λ s. (0 < length s.chains.items)
         × (s.room.items ≡ []) × (length s.chains.items ≤ vec_capacity s.room) };
 }
 
@@ -89,12 +90,12 @@ fn put_back<X: Drop>(values: &mut Vec<X>, value: X)
 }
 
 // A lock for each chain, the last chain's first, and the room of the chains.
-fn lock_all<S: Store, N: ProxyName>(
+fn lock_all<F: Folder, S: Store, N: ProxyName>(
     alloc: Global,
     chains: Vec<Chain<S>>,
-    locks: Vec<ChainLock<S, N>>,
-) -> (Vec<ChainLock<S, N>>, Vec<Chain<S>>)
-    requires named { All (IsChainOf S.Store N.kind N.maps N.places) chains.items }
+    locks: Vec<ChainLock<F, S, N>>,
+) -> (Vec<ChainLock<F, S, N>>, Vec<Chain<S>>)
+    requires named { All (IsChainOf S.Store (kind_named F.kind) N.maps N.places) chains.items }
     requires none { locks.items ≡ [] }
     requires room { vec_len chains ≤ vec_capacity locks }
     ensures number { vec_len result.0 ≡ vec_len chains }
@@ -109,15 +110,15 @@ fn lock_all<S: Store, N: ProxyName>(
     (locks, chains)
 }
 
-// The chains behind these locks, the last one's first.
-fn unlock_all<S: Store, N: ProxyName>(
-    locks: Vec<ChainLock<S, N>>,
+// The chains behind these locks, the last lock's first.
+fn unlock_all<F: Folder, S: Store, N: ProxyName>(
+    locks: Vec<ChainLock<F, S, N>>,
     room: Vec<Chain<S>>,
 ) -> Vec<Chain<S>>
     requires none { room.items ≡ [] }
     requires room { vec_len locks ≤ vec_capacity room }
     ensures number { vec_len result ≡ vec_len locks }
-    ensures named { All (IsChainOf S.Store N.kind N.maps N.places) result.items }
+    ensures named { All (IsChainOf S.Store (kind_named F.kind) N.maps N.places) result.items }
 {
     let mut locks = locks;
     let mut chains = room;
@@ -136,9 +137,9 @@ impl<F: Folder, S: Store, N: ProxyName> ProxyShelf<F, S, N> {
         chains: Vec<Chain<S>>,
     ) -> Result<ProxyShelf<F, S, N>, (CacheShelf<F>, Vec<Chain<S>>, Memory)>
         requires some { 0 < vec_len chains }
-        requires kind { (cache.kind ≡ kind_named F.kind) × (N.kind ≡ kind_named F.kind) }
+        requires kind { cache.kind ≡ kind_named F.kind }
         requires opening { IfSome F.opening (λ first. F.files cache.folder ≡ Some first) }
-        requires named { All (IsChainOf S.Store N.kind N.maps N.places) chains.items }
+        requires named { All (IsChainOf S.Store (kind_named F.kind) N.maps N.places) chains.items }
         ensures ok { IfOk result (λ s. s.chains ≡ vec_len chains) }
         ensures err { IfErr result (λ e. (e.0 ≡ cache) × (e.1.items ≡ chains.items)) }
     {
@@ -166,7 +167,7 @@ impl<F: Folder, S: Store, N: ProxyName> ProxyShelf<F, S, N> {
         ensures kept { IfSome F.opening
             (λ first. KeepsOpening (kind_named F.kind) first (F.files result.0.folder)) }
         ensures number { vec_len result.1 ≡ self.chains }
-        ensures named { All (IsChainOf S.Store N.kind N.maps N.places) result.1.items }
+        ensures named { All (IsChainOf S.Store (kind_named F.kind) N.maps N.places) result.1.items }
     {
         let ProxyShelf {
             cache,
@@ -184,11 +185,7 @@ impl<F: Folder, S: Store, N: ProxyName> ProxyShelf<F, S, N> {
 
     /// The door of a connection, which asks the chain whose number is what is left of its own when it is divided by how
     /// many there are.
-    pub fn door<'a, R: Wait>(
-        &'a self,
-        rt: &'a R,
-        connection: u64,
-    ) -> ProxyDoor<'a, R, F, S, N>
+    pub fn door<'a, R: Wait>(&'a self, rt: &'a R, connection: u64) -> ProxyDoor<'a, R, F, S, N>
         ensures { result ≡ self.now }
     {
         ProxyDoor {
@@ -201,9 +198,10 @@ impl<F: Folder, S: Store, N: ProxyName> ProxyShelf<F, S, N> {
     }
 
     // The lock of the chain that this connection asks.
-    fn chain_of(&self, connection: u64) -> &ChainLock<S, N> {
-        let number = connection % self.chains.len() as u64;
-        &self.chains[number as usize]
+    fn chain_of(&self, connection: u64) -> &ChainLock<F, S, N> {
+        let count = self.chains.len();
+        let number = (connection % count as u64) as usize;
+        &self.chains[count - 1 - number]
     }
 }
 
@@ -226,12 +224,14 @@ fn reply_with(alloc: Global, method: ReadMethod, chunk: Vec<u8>) -> Reply
 impl<'a, R: Wait, F: Folder, S: Store, N: ProxyName> ProxyDoor<'a, R, F, S, N> {
     // The chunk, as the stores of this connection's chain give it. The chain's lock alone is held meanwhile.
     fn obtain(&mut self, id: &ChunkId) -> Result<Vec<u8>, Refused>
-        ensures ok { IfOk result (λ v. IsRightChunk N.kind id.now.0 v.items) }
-        ensures err { IfErr result (Withholds N.kind N.maps S.never_fails id.now.0) }
+        ensures ok { IfOk result (λ v. IsRightChunk (kind_named F.kind) id.now.0 v.items) }
+        ensures err { IfErr result (Withholds (kind_named F.kind) N.maps S.never_fails id.now.0) }
         ensures kept { self.new ≡ self.old }
     {
         let shelf = self.shelf;
-        let mut chain = shelf.chain_of(self.connection).take(self.rt, &mut self.hand);
+        let mut chain = shelf
+            .chain_of(self.connection)
+            .take(self.rt, &mut self.hand);
         let obtained = chain.obtain(id);
         self.hand.let_go(chain);
         obtained
@@ -240,7 +240,7 @@ impl<'a, R: Wait, F: Folder, S: Store, N: ProxyName> ProxyDoor<'a, R, F, S, N> {
     // The reply where the cache doesn't give the chunk: the stores are asked, and what they give is added to the cache.
     // That the cache doesn't take it is passed over.
     fn supply(&mut self, method: ReadMethod, id: &ChunkId) -> Result<Reply, Memory>
-        ensures ok { IfOk result (λ r. Supplies N.kind N.maps S.never_fails method id.now (answer_in r)) }
+        ensures ok { IfOk result (λ r. Supplies (kind_named F.kind) N.maps S.never_fails method id.now (answer_in r)) }
         ensures kept { self.new ≡ self.old }
     {
         let shelf = self.shelf;
@@ -299,7 +299,8 @@ impl<'a, R: Wait, F: Folder, S: Store, N: ProxyName> Shelf for ProxyDoor<'a, R, 
     }
 
     fn kind(&self) -> DigestKind {
-        self.shelf.cache.kind()
+        let shelf = self.shelf;
+        shelf.cache.kind()
     }
 
     fn writable(&self) -> bool {
