@@ -1,5 +1,5 @@
 -- What is replied, by what the cache gave, or else the stores.
-use Rattle.std.proofs.Common.{◌≡◌, ◌≢◌, ◌⊎◌, ℕ, List, Bool, Option, Some, None, IfSome, IsSome, IsTrue, refl, sym, ap, subst, ◌∙◌, inl, inr, arith}
+use Rattle.std.proofs.Common.{◌≡◌, ◌≢◌, ◌⊎◌, ℕ, List, [], Bool, Option, Some, None, IfSome, IfOk, IsSome, IsTrue, Result, Ok, Err, refl, sym, ap, subst, ◌∙◌, inl, inr, arith}
 use Rattle.std.proofs.lemmas.Bool.{true≢false}
 use Rattle.chunk_proxy.specs.Answers.{IsProxyAnswer, given_by_stores}
 use Rattle.chunk_proxy.specs.Obtaining.{IsRightChunk, TellsRefusal}
@@ -12,6 +12,9 @@ use Rattle.chunk_store.specs.Folders.{chunks}
 use Rattle.chunk_store.specs.declared.id.ChunkId.{ChunkId}
 use Rattle.chunk_store.specs.declared.id.DigestKind.{DigestKind}
 use Rattle.dsy_base.specs.Maps.{Map}
+use Rattle.dsy_base.specs.declared.fault.Memory.{Memory}
+use Rattle.http_serve.specs.Answers.{answer_in}
+use Rattle.http_serve.specs.declared.service.Reply.{Reply}
 use Rattle.locked_proxy.proofs.Chained.{some_so}
 use Rattle.locked_proxy.specs.Chains.{Withholds}
 use Rattle.locked_proxy.specs.Replies.{GivesWhere, MayProxy, Supplies}
@@ -134,3 +137,10 @@ module _ (kind : DigestKind) (id : ChunkId) where
       sure = λ sure. absurd (never sure);
     }
     supplies_none m refused.Memory r none is = absurd is
+
+-- the same of what the door replies
+pub may_after : (kind : DigestKind) (id : ChunkId) (opening : Option (Map (List ℕ))) (maps : Option (List (Map (List ℕ)))) (cache_sure stores_sure : Bool) (m : ReadMethod) (found : Reply) (res : Result Reply Memory)
+    → (found.status ≡ 200 → ⊥) → ((body : List ℕ) → MayReply kind opening cache_sure (asked_by m id) body (answer_in found)) → IfOk res (λ r. Supplies kind maps stores_sure m id (answer_in r))
+    → IfOk res (λ r. MayProxy kind opening maps cache_sure stores_sure (asked_by m id) (answer_in r))
+may_after kind id opening maps cache_sure stores_sure m found (Err e) not may ok = tt
+may_after kind id opening maps cache_sure stores_sure m found (Ok r) not may ok = may_supplied kind id opening maps cache_sure stores_sure m (answer_in found) (answer_in r) [] not (may []) ok
