@@ -1,14 +1,14 @@
 //! A chunk is sought in a cache and in the stores behind it, and the reply tells of it. Sizes are in bytes.
 
-ghost use Rattle.std.specs.Prelude.{◌≡◌, ◌≢◌, ◌≤◌, length, map, take, None, Some, IfOk, IfSome, OnErr, OnOk};
+ghost use Rattle.std.specs.Prelude.{◌≡◌, ◌≢◌, ◌≤◌, length, map, take, None, Some, IfOk, IfSome, OnErr};
 ghost use Rattle.cache_store.specs.Shelves.{Stocks, shelf_of};
 ghost use Rattle.caibx_fields.specs.Limits.{size_limit};
 ghost use Rattle.chunk_proxy.specs.Obtaining.{IsRightChunk, SeeksChunk, TellsChunk, TellsOf};
 ghost use Rattle.chunk_server.specs.Reads.{answer_by};
 ghost use Rattle.http_serve.specs.Answers.{answer_in};
 
+use crate::upstream::{take_room, tell_refused};
 use cache_store::cached::{Cached, Got, Kept};
-use caibx_fields::format::SIZE_LIMIT;
 use chunk_server::chunk_file::ReadMethod;
 use chunk_store::id::ChunkId;
 use chunk_store::store::Store;
@@ -17,18 +17,6 @@ use dsy_base::folder::Folder;
 use http_serve::service::Reply;
 use std::alloc::Global;
 use store_chain::refused::Refused;
-
-// Makes the buffer long enough for every chunk.
-fn take_room(buffer: &mut Vec<u8>) -> Result<(), Memory>
-    requires room { length buffer.old.items ≤ size_limit }
-    ensures ok { OnOk result (length buffer.new.items ≡ size_limit) }
-    ensures room { length buffer.new.items ≤ size_limit }
-{
-    match buffer.resize(SIZE_LIMIT as usize, 0) {
-        Ok(()) => Ok(()),
-        Err(_) => Err(Memory),
-    }
-}
 
 // The reply that tells of this chunk.
 fn tell_chunk(alloc: Global, method: ReadMethod, chunk: &[u8]) -> Result<Reply, Memory>
@@ -75,10 +63,7 @@ fn tell(
 {
     match obtained {
         Ok(got) => tell_got(alloc, method, got, out),
-        Err(Refused::Missing) => Ok(Reply::bare(alloc, 404)),
-        Err(Refused::Damaged { .. }) => Ok(Reply::bare(alloc, 404)),
-        Err(Refused::StoreFault { .. }) => Ok(Reply::bare(alloc, 500)),
-        Err(Refused::Memory) => Err(Memory),
+        Err(refused) => tell_refused(alloc, refused),
     }
 }
 

@@ -7,3 +7,4 @@ mod fetch;
 pub mod laws;
 mod proxy_service;
 pub mod state;
+pub mod upstream;

@@ -38,13 +38,16 @@ module _ (kind : DigestKind) (may : Act → List ℕ → Answer → Type 0) (wri
   HasEndedSo false l = IfSome l.traffic IsAnswered ⊎ (Rose 0 l.faults × IfSome l.traffic IsBrokenOff)
   HasEndedSo true l = (l.faults ≡ 0) × IfSome l.traffic IsBrokenOff
 
--- the same over a folder whose type names the digest of its chunks, and the files that it began with. The bytes are
--- told exactly where `tells` is true
-pub record EndsOver
-    (kind : DigestKind) (opening : Option (Map (List ℕ))) (never_fails writable tells lacking : Bool) (l : LinkState)
+-- the same, where the bytes are told exactly where `tells` is true
+pub record EndsBy
+    (kind : DigestKind) (may : Act → List ℕ → Answer → Type 0) (writable tells lacking : Bool) (l : LinkState)
     : Type 0 where
   pub told : is_some l.traffic ≡ tells
-  pub so : HasEndedSo kind (MayReply kind opening never_fails) writable lacking l
+  pub so : HasEndedSo kind may writable lacking l
+
+-- the same over a folder whose type names the digest of its chunks, and the files that it began with
+abbrev pub EndsOver : DigestKind → Option (Map (List ℕ)) → Bool → Bool → Bool → Bool → LinkState → Type 0
+EndsOver kind opening never_fails writable tells = EndsBy kind (MayReply kind opening never_fails) writable tells
 
 -- a connection that has ended, and whether there was no memory to serve it
 pub record Gone (K : Type 0) : Type 0 where

@@ -1,21 +1,24 @@
 //! A shelf behind a lock, and the door by which a connection reaches it.
 
-ghost use Rattle.std.specs.Prelude.{◌≡◌, ℕ, ◌≤◌, List, length, IfOk, IfSome, Some};
+ghost use Rattle.std.specs.Prelude.{◌≡◌, ℕ, ◌≤◌, List, length, true, IfOk, IfSome, Some};
 ghost use Rattle.caibx_fields.specs.Limits.{size_limit};
 ghost use Rattle.chunk_server.specs.Reads.{asked_by};
 ghost use Rattle.chunk_server.specs.Shelves.{IsAnswer, answer_in};
 ghost use Rattle.chunk_store.specs.Kinds.{kind_named};
+ghost use Rattle.chunk_store.specs.Names.{name_of};
 ghost use Rattle.http_wire.specs.declared.request.Act.TheVariants as act;
 ghost use Rattle.locked_shelf.specs.Keepings.{KeepsOpening};
 ghost use Rattle.locked_shelf.specs.Replies.{MayReply};
 
 use crate::kept::Kept;
+use crate::shared_shelf::{SharedShelf, serve_through};
 use chunk_server::chunk_file::{ChunkFile, ReadMethod};
 use chunk_server::shelf::{Reply, Shelf};
 use chunk_server::state::ShelfState;
 use chunk_store::id::{ChunkId, DigestKind};
 use dsy_base::fault::Memory;
 use dsy_base::folder::Folder;
+use dsy_base::link::Link;
 use http_wire::request::Act;
 use one_lock::hand::{Hand, HandLock};
 use std::alloc::Global;
@@ -101,14 +104,60 @@ impl<F: Folder> LockedShelf<F> {
         self.writable
     }
 
-    // The kind that the folder's type names.
-    fn kind(&self) -> DigestKind
+    /// The kind that the folder's type names.
+    pub fn kind(&self) -> DigestKind
         ensures value { result ≡ kind_named F.kind }
     {
         self.kind
     }
 
+    /// The answer to a GET or a HEAD. The file is read under the lock, and the digest is computed once the lock is given
+    /// back.
+    pub fn find<R: Wait>(
+        &self,
+        rt: &R,
+        hand: &mut Hand,
+        file: &mut ChunkFile,
+        method: ReadMethod,
+        id: &ChunkId,
+    ) -> Result<Reply, Memory>
+        requires free { hand.old.is_free ≡ true }
+        ensures only { IfOk result (λ r. IsAnswer (kind_named F.kind) (asked_by method id.now) (answer_in r)) }
+        ensures may { IfOk result (λ r. (body : List ℕ) →
+            MayReply (kind_named F.kind) F.opening F.never_fails (asked_by method id.now) body (answer_in r)) }
+        ensures free { hand.new.is_free ≡ true }
+    {
+        file.make_room()?;
+        let mut guard = self.kept.take(rt, hand);
+        guard.read(id, file);
+        hand.let_go(guard);
+        file.reply(self.alloc, self.kind, method, id)
+    }
+
+    /// Puts a body under its digest, in the place of what stood there.
+    pub fn add<R: Wait>(
+        &self,
+        rt: &R,
+        hand: &mut Hand,
+        id: &ChunkId,
+        body: &[u8],
+    ) -> Result<Reply, Memory>
+        requires free { hand.old.is_free ≡ true }
+        requires named { name_of (kind_named F.kind) body.now ≡ id.now.0 }
+        requires size { length body.now ≤ size_limit }
+        ensures only { IfOk result (λ r. IsAnswer (kind_named F.kind) (act.Put id.now) (answer_in r)) }
+        ensures may { IfOk result (λ r. MayReply (kind_named F.kind) F.opening F.never_fails (act.Put id.now) body.now
+            (answer_in r)) }
+        ensures free { hand.new.is_free ≡ true }
+    {
+        let mut held = self.kept.take(rt, hand);
+        let put = held.put(id, body);
+        hand.let_go(held);
+        put
+    }
+
     pub fn into_inner(self) -> ShelfState<F>
+        ensures kind { result.kind ≡ kind_named F.kind }
         ensures kept { IfSome F.opening (λ first. KeepsOpening (kind_named F.kind) first (F.files result.folder)) }
     {
         self.kept.into_inner().into_inner()
@@ -116,19 +165,15 @@ impl<F: Folder> LockedShelf<F> {
 }
 
 impl<'a, R: Wait, F: Folder> ShelfDoor<'a, R, F> {
-    // The answer to a GET or a HEAD. The digest is computed once the lock is given back.
+    // The answer to a GET or a HEAD.
     fn find(&mut self, method: ReadMethod, id: &ChunkId) -> Result<Reply, Memory>
         ensures only { IfOk result (λ r. IsAnswer (kind_named F.kind) (asked_by method id.now) (answer_in r)) }
         ensures may { IfOk result (λ r. (body : List ℕ) →
             MayReply (kind_named F.kind) F.opening F.never_fails (asked_by method id.now) body (answer_in r)) }
         ensures kept { self.new ≡ self.old }
     {
-        self.file.make_room()?;
         let shelf = self.shelf;
-        let mut guard = shelf.kept.take(self.rt, &mut self.hand);
-        guard.read(id, &mut self.file);
-        self.hand.let_go(guard);
-        self.file.reply(shelf.alloc, shelf.kind(), method, id)
+        shelf.find(self.rt, &mut self.hand, &mut self.file, method, id)
     }
 
     // The answer to a PUT. The digest is computed before the lock is taken.
@@ -143,10 +188,28 @@ impl<'a, R: Wait, F: Folder> ShelfDoor<'a, R, F> {
         if !id.is_of(shelf.kind(), body) {
             return Ok(Reply::bare(shelf.alloc, 400));
         }
-        let mut held = shelf.kept.take(self.rt, &mut self.hand);
-        let put = held.put(id, body);
-        self.hand.let_go(held);
-        put
+        shelf.add(self.rt, &mut self.hand, id, body)
+    }
+}
+
+impl<F: Folder> SharedShelf for LockedShelf<F> {
+    ghost use Rattle.chunk_store.specs.Kinds.{kind_named};
+
+    ghost digest = { kind_named F.kind };
+
+    ghost may = { MayReply (kind_named F.kind) F.opening F.never_fails };
+
+    ghost takes = { λ s. s.writable };
+
+    fn serve_link<K: Link, R: Wait>(
+        &self,
+        rt: &R,
+        alloc: Global,
+        _number: u64,
+        link: &mut K,
+    ) -> bool {
+        let mut door = self.door(rt);
+        serve_through(alloc, link, &mut door)
     }
 }
 

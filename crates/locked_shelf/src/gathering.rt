@@ -1,8 +1,8 @@
 //! Connections that have ended and weren't given back yet, in a list that threads share.
 
 use crate::ended::{EndedLink, Mode};
+use crate::shared_shelf::SharedShelf;
 use dsy_base::fault::raise;
-use dsy_base::folder::Folder;
 use dsy_base::link::Link;
 use std::alloc::Global;
 use std::mem;
@@ -10,20 +10,20 @@ use std::sync::{Condvar, Mutex, Wait};
 
 /// Connections that have ended, and how many more there are for which the list had no room.
 #[derive(Drop)]
-pub(crate) struct Gathered<K: Link, F: Folder, M: Mode> {
-    pub links: Vec<EndedLink<K, F, M>>,
+pub(crate) struct Gathered<K: Link, D: SharedShelf, M: Mode> {
+    pub links: Vec<EndedLink<K, D, M>>,
     pub lost: u64,
 }
 
 /// Where threads leave connections that have ended.
 #[derive(Drop)]
-pub(crate) struct Gathering<K: Link, F: Folder, M: Mode> {
-    gathered: Mutex<Gathered<K, F, M>>,
+pub(crate) struct Gathering<K: Link, D: SharedShelf, M: Mode> {
+    gathered: Mutex<Gathered<K, D, M>>,
     more: Condvar,
 }
 
-impl<K: Link, F: Folder, M: Mode> Gathered<K, F, M> {
-    fn new(alloc: Global) -> Gathered<K, F, M> {
+impl<K: Link, D: SharedShelf, M: Mode> Gathered<K, D, M> {
+    fn new(alloc: Global) -> Gathered<K, D, M> {
         Gathered {
             links: Vec::new(alloc),
             lost: 0,
@@ -31,7 +31,7 @@ impl<K: Link, F: Folder, M: Mode> Gathered<K, F, M> {
     }
 
     // A connection that finds no room is dropped, and counted.
-    fn add(&mut self, ended: EndedLink<K, F, M>) {
+    fn add(&mut self, ended: EndedLink<K, D, M>) {
         if self.links.push(ended).is_err() {
             self.lost = raise(self.lost, 1);
         }
@@ -42,8 +42,8 @@ impl<K: Link, F: Folder, M: Mode> Gathered<K, F, M> {
     }
 }
 
-impl<K: Link, F: Folder, M: Mode> Gathering<K, F, M> {
-    pub fn new(alloc: Global) -> Gathering<K, F, M> {
+impl<K: Link, D: SharedShelf, M: Mode> Gathering<K, D, M> {
+    pub fn new(alloc: Global) -> Gathering<K, D, M> {
         Gathering {
             gathered: Mutex::new(Gathered::new(alloc)),
             more: Condvar::new(),
@@ -51,18 +51,18 @@ impl<K: Link, F: Folder, M: Mode> Gathering<K, F, M> {
     }
 
     /// Leaves a connection here.
-    pub fn add<R: Wait>(&self, rt: &R, ended: EndedLink<K, F, M>) {
+    pub fn add<R: Wait>(&self, rt: &R, ended: EndedLink<K, D, M>) {
         self.gathered.lock(rt).add(ended);
         self.more.notify_one();
     }
 
     /// Takes all that are here.
-    pub fn take<R: Wait>(&self, rt: &R, alloc: Global) -> Gathered<K, F, M> {
+    pub fn take<R: Wait>(&self, rt: &R, alloc: Global) -> Gathered<K, D, M> {
         mem::replace(&mut *self.gathered.lock(rt), Gathered::new(alloc))
     }
 
     /// Takes all that are here, once there is one.
-    pub fn await_some<R: Wait>(&self, rt: &R, alloc: Global) -> Gathered<K, F, M> {
+    pub fn await_some<R: Wait>(&self, rt: &R, alloc: Global) -> Gathered<K, D, M> {
         let mut some = self
             .more
             .wait_while(rt, self.gathered.lock(rt), |all| all.is_empty());

@@ -53,6 +53,7 @@ impl<F: Folder> Kept<F> {
 
     pub fn into_inner(self) -> ShelfState<F>
         ensures same { result ≡ self }
+        ensures kind { result.kind ≡ kind_named F.kind }
         ensures kept { IfSome F.opening (λ first. KeepsOpening (kind_named F.kind) first (F.files result.folder)) }
     {
         self.state

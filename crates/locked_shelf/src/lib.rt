@@ -8,4 +8,5 @@ mod gathering;
 mod kept;
 pub mod serve_all;
 pub mod serve_folder;
+pub mod shared_shelf;
 mod tally;

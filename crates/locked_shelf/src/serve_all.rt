@@ -2,18 +2,16 @@
 
 ghost use Rattle.std.specs.Prelude.{◌≡◌, ◌≢◌, ◌<◌, ◌≤◌, ◌++◌, [], ◌∷◌, false, Some};
 ghost use Rattle.std.specs.Option.{option_map};
-ghost use Rattle.chunk_store.specs.Kinds.{kind_named};
 ghost use Rattle.dsy_base.specs.Counts.{Rose};
 ghost use Rattle.dsy_base.specs.Links.{IsFreshLink};
-ghost use Rattle.locked_shelf.specs.Endings.{EndsOver};
+ghost use Rattle.locked_shelf.specs.Endings.{EndsBy};
 ghost use Rattle.locked_shelf.specs.Listening.{GivesBack, HasHeard, ServesAll, ServesSome};
 
-use crate::door::LockedShelf;
-use crate::ended::{EndedLink, Mode, serve_link};
+use crate::ended::{EndedLink, Mode, serve_new};
 use crate::gathering::{Gathered, Gathering};
+use crate::shared_shelf::SharedShelf;
 use crate::tally::Tally;
 use dsy_base::fault::IoFault;
-use dsy_base::folder::Folder;
 use dsy_base::link::Link;
 use dsy_base::listen::Listen;
 use std::alloc::Global;
@@ -40,29 +38,30 @@ pub enum AllServed {
 }
 
 // Serves a connection to its end, and leaves it with those that have ended.
-fn serve_into<K: Link, F: Folder, M: Mode, R: Wait>(
+fn serve_into<K: Link, D: SharedShelf, M: Mode, R: Wait>(
     rt: &R,
     alloc: Global,
-    shelf: &LockedShelf<F>,
-    gathering: &Gathering<K, F, M>,
+    shelf: &D,
+    gathering: &Gathering<K, D, M>,
+    number: u64,
     link: K,
 )
-    requires mode { shelf.now.writable ≡ M.writable }
+    requires mode { D.takes shelf.now ≡ M.writable }
     requires fresh { IsFreshLink (K.state link) }
 {
-    let ended = serve_link(rt, alloc, shelf, link);
+    let ended = serve_new(rt, alloc, shelf, number, link);
     gathering.add(rt, ended);
 }
 
 // Gives a connection back.
-fn give_one<L: Listen, F: Folder, M: Mode>(
+fn give_one<L: Listen, D: SharedShelf, M: Mode>(
     listen: &mut L,
-    ended: EndedLink<L::Link, F, M>,
+    ended: EndedLink<L::Link, D, M>,
     tally: &mut Tally,
 )
     ensures given { (L.state listen.new).ended
         ≡ option_map (λ done. done ++ L.Link.state ended.link ∷ []) (L.state listen.old).ended }
-    ensures ended { GivesBack (EndsOver (kind_named F.kind) F.opening F.never_fails M.writable L.Link.tells)
+    ensures ended { GivesBack (EndsBy D.digest D.may M.writable L.Link.tells)
         (L.state listen.old) (L.state listen.new) tally.old tally.new }
 {
     let (link, lacking) = ended.into_parts();
@@ -71,12 +70,12 @@ fn give_one<L: Listen, F: Folder, M: Mode>(
 }
 
 // Gives connections back.
-fn give_back<L: Listen, F: Folder, M: Mode>(
+fn give_back<L: Listen, D: SharedShelf, M: Mode>(
     listen: &mut L,
-    gathered: Gathered<L::Link, F, M>,
+    gathered: Gathered<L::Link, D, M>,
     tally: &mut Tally,
 )
-    ensures ended { GivesBack (EndsOver (kind_named F.kind) F.opening F.never_fails M.writable L.Link.tells)
+    ensures ended { GivesBack (EndsBy D.digest D.may M.writable L.Link.tells)
         (L.state listen.old) (L.state listen.new) tally.old tally.new }
 {
     tally.lose(gathered.lost);
@@ -86,15 +85,15 @@ fn give_back<L: Listen, F: Folder, M: Mode>(
 }
 
 // Gives back those that have ended. Where as many are served as may be, it waits until one has ended.
-fn make_room<L: Listen, F: Folder, M: Mode, R: Wait>(
+fn make_room<L: Listen, D: SharedShelf, M: Mode, R: Wait>(
     rt: &R,
     alloc: Global,
     listen: &mut L,
-    gathering: &Gathering<L::Link, F, M>,
+    gathering: &Gathering<L::Link, D, M>,
     tally: &mut Tally,
 )
     ensures room { tally.new.pending < MOST }
-    ensures ended { GivesBack (EndsOver (kind_named F.kind) F.opening F.never_fails M.writable L.Link.tells)
+    ensures ended { GivesBack (EndsBy D.digest D.may M.writable L.Link.tells)
         (L.state listen.old) (L.state listen.new) tally.old tally.new }
 {
     give_back(listen, gathering.take(rt, alloc), tally);
@@ -110,33 +109,33 @@ fn make_room<L: Listen, F: Folder, M: Mode, R: Wait>(
 // Takes connections until no more come, and starts a thread for each. Those that have ended are given back before the
 // next one is taken. Where `one_by_one` is true each is served here instead, and so it is where a start is refused,
 // which hands the work back.
-fn hear<'s, E, L: Listen, F: Folder + Send, M: Mode + Send, R: Threads + Wait + Sync>(
+fn hear<'s, E, L: Listen, D: SharedShelf + Send + Sync, M: Mode + Send, R: Threads + Wait + Sync>(
     rt: &'s R,
     alloc: Global,
     scope: &Scope<'s, E>,
     listen: &mut L,
-    shelf: &'s LockedShelf<F>,
-    gathering: &'s Gathering<L::Link, F, M>,
+    shelf: &'s D,
+    gathering: &'s Gathering<L::Link, D, M>,
     one_by_one: bool,
 ) -> (AllServed, Tally)
 where
     L::Link: Send,
-    requires mode { shelf.now.writable ≡ M.writable }
-    ensures served { HasHeard (EndsOver (kind_named F.kind) F.opening F.never_fails M.writable L.Link.tells)
+    requires mode { D.takes shelf.now ≡ M.writable }
+    ensures served { HasHeard (EndsBy D.digest D.may M.writable L.Link.tells)
         (L.state listen.old) (L.state listen.new) result.0 result.1 }
 {
     let mut tally = Tally {
         pending: 0,
         lacking: false,
     };
-    'links: for _ in 0..u64::MAX {
+    'links: for number in 0..u64::MAX {
         make_room(rt, alloc, listen, gathering, &mut tally);
         match listen.accept() {
             Ok(Some(link)) => {
                 tally.pending += 1;
                 let work = move ||
-                    requires { (shelf.now.writable ≡ M.writable) × IsFreshLink (L.Link.state link) }
-                { serve_into(rt, alloc, shelf, gathering, link) };
+                    requires { (D.takes shelf.now ≡ M.writable) × IsFreshLink (L.Link.state link) }
+                { serve_into(rt, alloc, shelf, gathering, number, link) };
                 if one_by_one {
                     work();
                 } else if let Err(refused) = scope.spawn(work) {
@@ -153,18 +152,18 @@ where
 }
 
 // Serves all connections by threads, which all have ended when it answers.
-fn serve_scoped<'x, L: Listen, F: Folder + Send, M: Mode + Send, R: Threads + Wait + Sync>(
+fn serve_scoped<'x, L: Listen, D: SharedShelf + Send + Sync, M: Mode + Send, R: Threads + Wait + Sync>(
     rt: &'x R,
     alloc: Global,
     listen: &mut L,
-    shelf: &'x LockedShelf<F>,
-    gathering: &'x Gathering<L::Link, F, M>,
+    shelf: &'x D,
+    gathering: &'x Gathering<L::Link, D, M>,
     one_by_one: bool,
 ) -> (AllServed, Tally)
 where
     L::Link: Send,
-    requires mode { shelf.now.writable ≡ M.writable }
-    ensures served { HasHeard (EndsOver (kind_named F.kind) F.opening F.never_fails M.writable L.Link.tells)
+    requires mode { D.takes shelf.now ≡ M.writable }
+    ensures served { HasHeard (EndsBy D.digest D.may M.writable L.Link.tells)
         (L.state listen.old) (L.state listen.new) result.0 result.1 }
 {
     let lent = &mut *listen;
@@ -172,9 +171,9 @@ where
         thread::scope_env(),
         rt,
         move |scope| -> (&mut L, AllServed, Tally)
-            requires { shelf.now.writable ≡ M.writable }
+            requires { D.takes shelf.now ≡ M.writable }
             ensures same { result.0.ghost_name ≡ lent.entry.ghost_name }
-            ensures served { HasHeard (EndsOver (kind_named F.kind) F.opening F.never_fails M.writable L.Link.tells)
+            ensures served { HasHeard (EndsBy D.digest D.may M.writable L.Link.tells)
                 (L.state lent.entry.now) (L.state result.0.now) result.1 result.2 }
         {
             let (served, tally) = hear(rt, alloc, scope, lent, shelf, gathering, one_by_one);
@@ -186,27 +185,27 @@ where
 }
 
 // Serves all connections, where the type names whether chunks may be put.
-fn serve_by<L: Listen, F: Folder + Send, M: Mode + Send, R: Threads + Wait + Sync>(
+fn serve_by<L: Listen, D: SharedShelf + Send + Sync, M: Mode + Send, R: Threads + Wait + Sync>(
     rt: &R,
     alloc: Global,
     listen: &mut L,
-    shelf: &LockedShelf<F>,
+    shelf: &D,
     one_by_one: bool,
 ) -> AllServed
 where
     L::Link: Send,
-    requires mode { shelf.now.writable ≡ M.writable }
+    requires mode { D.takes shelf.now ≡ M.writable }
     ensures end { result ≡ AllServed.Ended → (L.state listen.new).coming ≡ Some [] }
     ensures served { result ≢ AllServed.Short → result ≢ AllServed.Memory →
-        ServesAll (EndsOver (kind_named F.kind) F.opening F.never_fails M.writable L.Link.tells)
+        ServesAll (EndsBy D.digest D.may M.writable L.Link.tells)
         (L.state listen.old) (L.state listen.new) }
-    ensures lacking { ServesSome (EndsOver (kind_named F.kind) F.opening F.never_fails M.writable L.Link.tells)
+    ensures lacking { ServesSome (EndsBy D.digest D.may M.writable L.Link.tells)
         (L.state listen.old) (L.state listen.new) }
     ensures cause { result ≡ AllServed.ListenFault → Rose (L.state listen.old).faults (L.state listen.new).faults }
     ensures unfailed { result ≡ AllServed.Memory → (L.state listen.new).faults ≡ (L.state listen.old).faults }
     ensures faults { (L.state listen.old).faults ≤ (L.state listen.new).faults }
 {
-    let gathering: Gathering<L::Link, F, M> = Gathering::new(alloc);
+    let gathering: Gathering<L::Link, D, M> = Gathering::new(alloc);
     let (served, tally) = serve_scoped(rt, alloc, listen, shelf, &gathering, one_by_one);
     if tally.lacking || tally.pending > 0 {
         AllServed::Short
@@ -217,24 +216,24 @@ where
 
 /// Serves each connection that comes, until no more come: by a thread of its own, or one after the other where
 /// `one_by_one` is true. When it answers, all of them have ended. A call that fails on a connection ends it alone.
-pub fn serve_all<L: Listen, F: Folder + Send, R: Threads + Wait + Sync>(
+pub fn serve_all<L: Listen, D: SharedShelf + Send + Sync, R: Threads + Wait + Sync>(
     rt: &R,
     alloc: Global,
     listen: &mut L,
-    shelf: &LockedShelf<F>,
+    shelf: &D,
     one_by_one: bool,
 ) -> AllServed
 where
     L::Link: Send,
     ensures end { result ≡ AllServed.Ended → (L.state listen.new).coming ≡ Some [] }
     ensures served { result ≢ AllServed.Short → result ≢ AllServed.Memory →
-        ServesAll (EndsOver (kind_named F.kind) F.opening F.never_fails shelf.now.writable L.Link.tells)
+        ServesAll (EndsBy D.digest D.may (D.takes shelf.now) L.Link.tells)
         (L.state listen.old) (L.state listen.new) }
-    ensures lacking { ServesSome (EndsOver (kind_named F.kind) F.opening F.never_fails shelf.now.writable L.Link.tells)
+    ensures lacking { ServesSome (EndsBy D.digest D.may (D.takes shelf.now) L.Link.tells)
         (L.state listen.old) (L.state listen.new) }
     ensures cause { result ≡ AllServed.ListenFault → Rose (L.state listen.old).faults (L.state listen.new).faults }
     ensures unfailed { result ≡ AllServed.Memory → (L.state listen.new).faults ≡ (L.state listen.old).faults }
     ensures faults { (L.state listen.old).faults ≤ (L.state listen.new).faults }
 {
-    serve_by::<L, F, Brand, R>(rt, alloc, listen, shelf, one_by_one)
+    serve_by::<L, D, Brand, R>(rt, alloc, listen, shelf, one_by_one)
 }
