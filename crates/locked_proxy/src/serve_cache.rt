@@ -75,7 +75,7 @@ where
     ensures number { vec_len result.1 ≡ vec_len chains }
     ensures named { All (IsChainOf S.Store (kind_named N.kind) P.maps P.places) result.1.items }
     ensures end { result.2 ≡ AllServed.Ended → (L.state listen.new).coming ≡ Some [] }
-    ensures served { result.2 ≢ AllServed.Memory →
+    ensures served { result.2 ≢ AllServed.Short → result.2 ≢ AllServed.Memory →
         ServesAll (EndsThrough (kind_named N.kind) N.opening P.maps F.never_fails S.never_fails L.Link.tells)
         (L.state listen.old) (L.state listen.new) }
     ensures lacking { ServesSome (EndsThrough (kind_named N.kind) N.opening P.maps F.never_fails S.never_fails L.Link.tells)
@@ -119,7 +119,7 @@ where
     ensures chains { All (IsChainOf S.Store cache.kind (maps_told S.holds chains.items)
         (Some (places_of S.place chains.items))) result.1.items }
     ensures end { result.2 ≡ AllServed.Ended → (L.state listen.new).coming ≡ Some [] }
-    ensures served { result.2 ≢ AllServed.Memory → ServesAll (EndsThrough cache.kind (F.files cache.folder)
+    ensures served { result.2 ≢ AllServed.Short → result.2 ≢ AllServed.Memory → ServesAll (EndsThrough cache.kind (F.files cache.folder)
         (maps_told S.holds chains.items) F.never_fails S.never_fails L.Link.tells)
         (L.state listen.old) (L.state listen.new) }
     ensures lacking { ServesSome (EndsThrough cache.kind (F.files cache.folder)

@@ -28,7 +28,7 @@ pub fn serve_proxy<
 where
     L::Link: Send,
     ensures end { result ≡ AllServed.Ended → (L.state listen.new).coming ≡ Some [] }
-    ensures served { result ≢ AllServed.Memory →
+    ensures served { result ≢ AllServed.Short → result ≢ AllServed.Memory →
         ServesAll (EndsThrough (kind_named F.kind) F.opening N.maps F.never_fails S.never_fails L.Link.tells)
         (L.state listen.old) (L.state listen.new) }
     ensures lacking { ServesSome (EndsThrough (kind_named F.kind) F.opening N.maps F.never_fails S.never_fails L.Link.tells)
