@@ -19,12 +19,14 @@ ghost use Rattle.extract_plan.specs.Places.{IsSeedIndex, PlacesKnown, items_of, 
 
 use crate::held::{Held, give_back, into_kits, let_go, of_kits, reach};
 use crate::kits::open_kits;
+use crate::stores::Stores;
 use assembler::fault::ExtractFault;
 use caibx_codec::index::Index;
+use command_groups::numbers::numbered;
 use command_indexes::load::load_index;
 use command_outcome::outcome::Outcome;
 use command_steps::seeds::{open_seeds, read_indexes};
-use command_words::command::{Locations, Names};
+use command_words::command::{Groups, Names};
 use dsy_base::dial::Dial;
 use dsy_base::fault::{IoFault, Memory, OpenFault};
 use dsy_base::files::Files;
@@ -44,7 +46,9 @@ use std::thread::Threads;
 /// The words of an `extract`. The cache and the seeds may be absent.
 #[derive(Drop)]
 pub struct Extraction {
-    pub stores: Locations,
+    pub stores: Groups,
+    /// How often a call on a store that fails is made again: 0 to 16.
+    pub retries: u32,
     pub cache: Option<Name>,
     /// The names of the seeds' indexes.
     pub seeds: Names,
@@ -66,7 +70,7 @@ struct Planned {
     index: Index,
     seeds: Names,
     places: SeedIndex,
-    stores: Locations,
+    stores: Stores,
     workers: usize,
 }
 
@@ -119,7 +123,7 @@ fn plan_of(
     index: Index,
     seeds: Names,
     indexes: Vec<Index>,
-    stores: Locations,
+    stores: Stores,
     workers: usize,
 ) -> Result<Planned, Memory>
     requires few { length indexes.items < 2 ^ 32 }
@@ -199,7 +203,7 @@ where
         return Err(Outcome::Memory);
     };
     held.seeds = seeds;
-    let stores = planned.stores.as_slice();
+    let stores = &planned.stores;
     let workers = workers_with_room(alloc, &planned.index, planned.workers);
     let kind = planned.index.kind();
     let kits = &mut held.kits;
@@ -215,9 +219,11 @@ where
     let index = &planned.index;
     let ended = assemble(rt, alloc, index, &planned.places, taken, kits, shelf);
     let held = of_kits(ended.kits, cache, ended.cache);
+    let groups = stores.groups.as_slice();
+    let answer = numbered(groups, held.stores.as_slice(), answer_of(ended.answer));
     give_back(files, dial, held);
     files.give(target, ended.target);
-    answer_of(ended.answer)
+    answer
 }
 
 // The name of the temporary file beside OUT.
@@ -330,6 +336,7 @@ where
 {
     let Extraction {
         stores,
+        retries,
         cache,
         seeds,
         in_place,
@@ -338,6 +345,10 @@ where
         target,
     } = words;
     let workers = worker_count(workers);
+    let stores = Stores {
+        groups: stores,
+        retries,
+    };
     let listed = load_index(alloc, files, dial, index)?;
     let indexes = read_indexes(alloc, files, seeds.as_slice())?;
     let Ok(planned) = plan_of(alloc, listed, seeds, indexes, stores, workers) else {
@@ -346,7 +357,7 @@ where
     let Ok(temporary) = temporary_out(alloc, target.as_str()) else {
         return Err(Outcome::Memory);
     };
-    let stores = planned.stores.as_slice();
+    let stores = &planned.stores;
     let kind = planned.index.kind();
     let held = match reach(alloc, files, dial, kind, stores, cache, workers) {
         Ok(held) => held,
