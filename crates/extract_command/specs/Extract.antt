@@ -25,6 +25,7 @@ use Rattle.chunk_store.specs.declared.id.ChunkId.{ChunkId}
 use Rattle.chunk_store.specs.declared.id.DigestKind.{DigestKind}
 use Rattle.command_outcome.specs.declared.outcome.Outcome.{Outcome}
 use Rattle.command_outcome.specs.declared.outcome.Outcome.TheVariants as ends
+use Rattle.command_words.specs.declared.command.Location.{Location}
 use Rattle.dir_store.specs.Names.{is_stranger}
 use Rattle.extract_command.specs.declared.stores.Stores.{Stores}
 use Rattle.dsy_base.specs.Bytes.{resized}
@@ -32,13 +33,15 @@ use Rattle.dsy_base.specs.Counts.{Quiet}
 use Rattle.dsy_base.specs.Maps.{Map, at_name}
 use Rattle.dsy_base.specs.declared.fault.IoFault.{IoFault}
 use Rattle.dsy_base.specs.declared.fault.IoFault.TheVariants as io
-use Rattle.command_steps.specs.Asking.{AsksFew, EachDialed, SendsFronts, WorkersDialed}
+use Rattle.command_groups.specs.Asking.{WorkersGroupsDialed, with_retries}
+use Rattle.command_groups.specs.Groups.{group_files, stores_of}
+use Rattle.command_groups.specs.Lacking.{HaveLackedIn}
+use Rattle.command_steps.specs.Asking.{AsksFew, EachDialed, SendsFronts}
 use Rattle.command_steps.specs.Cache.{CacheOpened}
 use Rattle.command_indexes.specs.Gets.{IndexGot}
 use Rattle.command_steps.specs.Seeds.{IndexesRead, image_name}
 use Rattle.command_worlds.specs.Steps.{◌>>=◌}
-use Rattle.command_steps.specs.Sources.{DialsStores, HaveLacked, NotAsking, OnStorage, Storage}
-use Rattle.command_steps.specs.Sources.{SourcesOpened, storage, location_files}
+use Rattle.command_steps.specs.Sources.{DialsStores, NotAsking, OnStorage, SourcesOpened, Storage, storage}
 use Rattle.command_steps.specs.Uses.{Uses, folders_among}
 use Rattle.command_worlds.specs.Worlds.{DiskQuiet, FileRose, FolderRose, OnDisk, Step, World}
 use Rattle.dsy_base.specs.Disk.{Disk, OnFile}
@@ -159,7 +162,7 @@ pub record IsLacking (w v : Storage) (before : Map (List ℕ)) (n : Map (Map (Li
     (out : Into) (l : Listing) (x : Seeds) (stores : Stores) (k : ℕ) (id : ChunkId) (r : Refused) : Type 0 where
   pub listed : k < count_of l
   pub id_is : id.0 ≡ id_of l k
-  pub said : HaveLacked stores.retries (chunk_of (kind_of l) id (size_of l k)) w v stores.groups r
+  pub said : HaveLackedIn stores.retries (chunk_of (kind_of l) id (size_of l k)) w v stores.groups r
   pub lacks : WhereFolders n stores (λ fs. LacksAll (chunk_of (kind_of l) id (size_of l k)) (map chunks fs) r)
   pub copies : RightAlike l (base_of before out l) k → FileRose w.disk v.disk out.name
   pub seeds : (s : ℕ) (h : SeedHas (kind_of l) before x (id_of l k) (size_of l k) s) → FileRose w.disk v.disk h.image
@@ -170,9 +173,9 @@ abbrev pub folder_of : Option (List ℕ) → List (List ℕ)
 folder_of None = []
 folder_of (Some name) = name ∷ []
 
--- with those of stores
-abbrev pub folders_reached : Option (List ℕ) → Stores → List (List ℕ)
-folders_reached cache stores = folder_of cache ++ folders_among (stores_of stores.groups)
+-- with those of the stores of groups
+abbrev pub folders_reached : Option (List ℕ) → List (List Location) → List (List ℕ)
+folders_reached cache groups = folder_of cache ++ folders_among (stores_of groups)
 
 -- so it is where files and folders are told; these are the folders, and the files of the cache's
 abbrev pub Told : Disk → Disk → Option (List ℕ)
@@ -201,7 +204,7 @@ StopsLacking w v stores cache out l x k id r = Told w.disk v.disk cache (λ b a 
 -- the first store that failed is named, where no store gave the chunk of some entry
 abbrev pub StopsFailed : Storage → Storage → Stores → Listing → ℕ → Type 0
 StopsFailed w v stores l s = (k : ℕ) × (id : ChunkId) × (k < count_of l) × (id.0 ≡ id_of l k)
-    × HaveLacked stores.retries (chunk_of (kind_of l) id (size_of l k)) w v stores.groups (refused.StoreFault s)
+    × HaveLackedIn stores.retries (chunk_of (kind_of l) id (size_of l k)) w v stores.groups (refused.StoreFault s)
 
 -- the file became the image of the index, with chunks from the seeds, the cache and the stores, or why not. Where
 -- stores are folders, it does so only where each entry can be had, and undisturbed exactly there; else the first that
@@ -321,9 +324,10 @@ IsSparedOnDisk sure workers d e before cache out l x p w =
     × AllKnow workers sure.cache))
 
 -- each worker asks each server for the chunk of an id at most once for each want of that id that it is dealt and that
--- isn't spared, and the first worker once more for each want of that id that isn't spared; and each sends nothing but
--- fronts of requests for chunks that the index lists. All workers know of a fault of OUT, or of the cache, where there
--- is one worker, or where no call on it ever fails, as `sure` says
+-- isn't spared, and the first worker once more for each want of that id that isn't spared; each time as often again as
+-- there are retries. A server that is a group of its own is sent nothing but fronts of requests for chunks that the
+-- index lists. All workers know of a fault of OUT, or of the cache, where there is one worker, or where no call on it
+-- ever fails, as `sure` says
 pub record GetsWants (sure : NeverFail) (w v : Storage) (stores : Stores) (cache : Option (List ℕ)) (out : Into)
     (l : Listing) (x : Seeds) : Type 0 where
   pub workers : ℕ
@@ -331,8 +335,11 @@ pub record GetsWants (sure : NeverFail) (w v : Storage) (stores : Stores) (cache
   pub planned : IsPlan l workers plan
   pub gets : (spared : ℕ → Bool) → ((i : ℕ) → i < plan.wants → spared i ≡ true → IsSomeAnd w.disk.files
       (λ b. IsSparedOnDisk sure workers w.disk v.disk b cache out l x plan i)) →
-      WorkersDialed (λ k. AsksFew method.Get (worker_asks l plan spared k)) workers stores w.dial.ended v.dial.ended
-  pub sends : WorkersDialed (λ k. SendsFronts (IsListedGet l)) workers stores w.dial.ended v.dial.ended
+      WorkersGroupsDialed (λ k. AsksFew method.Get (with_retries stores.retries (worker_asks l plan spared k)))
+      (λ k. AsksFew method.Get (with_retries stores.retries (worker_asks l plan spared k))) workers stores.groups
+      w.dial.ended v.dial.ended
+  pub sends : WorkersGroupsDialed (λ k. SendsFronts (IsListedGet l)) (λ k s ended. Unit {0}) workers stores.groups
+      w.dial.ended v.dial.ended
 
 -- ---- making the image
 
@@ -348,7 +355,7 @@ ImageMade sure stores cache out l x w r v = Assembled w v stores cache out l x r
     × (is_some v.disk.files ≡ is_some w.disk.files) × DialsStores (stores_of stores.groups) w.dial v.dial
     × IsNumbered out.name w.disk r v.disk
     × GetsWants sure w v stores cache out l x
-    × Uses (out.name ∷ x.images) (folders_reached cache stores) w.disk v.disk
+    × Uses (out.name ∷ x.images) (folders_reached cache stores.groups) w.disk v.disk
 
 -- ---- by way of a temporary file
 

@@ -2,12 +2,13 @@
 //! the kits of its further workers.
 
 ghost use Rattle.std.specs.Prelude.{◌≡◌, ℕ, List, ◌<◌, ◌≤◌, IfErr, IfOk, Ok, Err, length, vec_capacity, vec_len};
+ghost use Rattle.command_groups.specs.Groups.{AreGroups};
 ghost use Rattle.command_steps.specs.Sources.{storage};
 ghost use Rattle.command_steps.specs.Uses.{Uses};
 ghost use Rattle.command_worlds.specs.Worlds.{Reads};
 ghost use Rattle.extract_command.specs.Extract.{folders_reached};
 ghost use Rattle.extract_command.specs.Held.{AllReached, CanBeGiven, HasNames, IsGivenBack, JustReached, disk_with};
-ghost use Rattle.extract_command.specs.Held.{stores_of};
+ghost use Rattle.extract_command.specs.Held.{groups_of};
 ghost use Rattle.extract_command.specs.Kits.{StandsFirst};
 
 use crate::cache::{give_cache, take_cache};
@@ -53,13 +54,14 @@ pub fn reach<F: Files, D: Dial>(
     cache: Option<Name>,
     workers: usize,
 ) -> Result<Held<F::Look, F::Folder, F::View, D>, Outcome>
-    ensures ok { IfOk result (λ h. AllReached stores.now cache (F.disk files.old) (Ok tt)
+    requires groups { AreGroups stores.now.groups stores.now.retries }
+    ensures ok { IfOk result (λ h. AllReached stores.now.groups cache (F.disk files.old) (Ok tt)
         (disk_with F.Folder.Look h (F.disk files.new))) }
-    ensures located { IfOk result (λ h. stores_of F.Look.Look h ≡ stores.now) }
+    ensures located { IfOk result (λ h. groups_of F.Look.Look h ≡ stores.now.groups) }
     ensures named { IfOk result (λ h. h.cache ≡ cache) }
     ensures fresh { IfOk result (JustReached F.Look.Look F.Folder.Look F.View.View D.state (F.disk files.new)
-        workers kind) }
-    ensures err { IfErr result (λ o. AllReached stores.now cache (F.disk files.old) (Err o) (F.disk files.new)) }
+        stores.now.retries workers kind) }
+    ensures err { IfErr result (λ o. AllReached stores.now.groups cache (F.disk files.old) (Err o) (F.disk files.new)) }
 {
     let Ok(kits) = Vec::with_capacity(alloc, workers) else {
         return Err(Outcome::Memory);
@@ -139,7 +141,7 @@ pub fn let_go<F: Files, D: Dial>(files: &mut F, held: Held<F::Look, F::Folder, F
     requires given { CanBeGiven F.Look.Look F.Folder.Look F.View.View (F.disk files.old) held }
     ensures kept { Reads (disk_with F.Folder.Look held (F.disk files.old)) (F.disk files.new) }
     ensures used { (images : List (List ℕ)) → HasNames F.Look.Look F.View.View images held →
-        Uses images (folders_reached held.cache (stores_of F.Look.Look held)) (F.disk files.old) (F.disk files.new) }
+        Uses images (folders_reached held.cache (groups_of F.Look.Look held)) (F.disk files.old) (F.disk files.new) }
 {
     let Held {
         stores,

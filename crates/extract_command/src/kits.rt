@@ -1,6 +1,7 @@
 //! The kits of the further workers of an extraction: stores and seeds of their own, opened like those of the first one.
 
 ghost use Rattle.std.specs.Prelude.{◌≡◌, ℕ, List, ◌+◌, ◌<◌, ◌≤◌, All, IfSome, length, map, max, vec_capacity, vec_len};
+ghost use Rattle.command_groups.specs.Groups.{AreGroups, stores_of};
 ghost use Rattle.command_steps.specs.Seeds.{image_name};
 ghost use Rattle.command_steps.specs.Sources.{storage};
 ghost use Rattle.command_steps.specs.Uses.{Uses, folders_among};
@@ -30,12 +31,12 @@ fn open_kit<F: Files, D: Dial>(
     stores: &Stores,
     seeds: &[Name],
 ) -> Option<Kit<Group<AnyStore<F::Look, D>>, F::View>>
-    requires size { (1 ≤ length stores.now) × (length stores.now ≤ 16) }
+    requires size { AreGroups stores.now.groups stores.now.retries }
     ensures some { IfSome result (IsKitOpened F.Look.Look F.View.View D.state (F.disk files.old) (F.disk files.new)
         stores.now (map image_name seeds.now)) }
     ensures kind { IfSome result (λ k. k.chain.kind ≡ kind) }
     ensures kept { Reads (F.disk files.old) (F.disk files.new) }
-    ensures used { Uses (map image_name seeds.now) (folders_among stores.now) (F.disk files.old) (F.disk files.new) }
+    ensures used { Uses (map image_name seeds.now) (folders_among (stores_of stores.now.groups)) (F.disk files.old) (F.disk files.new) }
 {
     let Ok(stores) = open_groups(alloc, files, dial, stores.groups.as_slice(), stores.retries) else {
         return None;
@@ -60,7 +61,7 @@ pub fn open_kits<F: Files, D: Dial>(
     workers: usize,
     kits: &mut Vec<Kit<Group<AnyStore<F::Look, D>>, F::View>>,
 )
-    requires size { (1 ≤ length stores.now) × (length stores.now ≤ 16) }
+    requires size { AreGroups stores.now.groups stores.now.retries }
     requires some { 1 ≤ workers }
     requires room { (vec_len kits.old ≡ 0) × (workers ≤ vec_capacity kits.old) }
     ensures opened { AreOpened F.Look.Look F.View.View D.state (F.disk files.old) (F.disk files.new) stores.now
@@ -69,7 +70,7 @@ pub fn open_kits<F: Files, D: Dial>(
     ensures few { vec_len kits.new + 1 ≤ workers }
     ensures room { vec_len kits.new + 1 ≤ vec_capacity kits.new }
     ensures kept { Reads (F.disk files.old) (F.disk files.new) }
-    ensures used { Uses (map image_name seeds.now) (folders_among stores.now) (F.disk files.old) (F.disk files.new) }
+    ensures used { Uses (map image_name seeds.now) (folders_among (stores_of stores.now.groups)) (F.disk files.old) (F.disk files.new) }
 {
     let alloc = *kits.allocator();
     for _opened in 1..workers {
