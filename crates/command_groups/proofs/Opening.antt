@@ -1,0 +1,132 @@
+-- Groups of stores that are opened in order.
+use Rattle.std.proofs.Common.{◌≡◌, ◌∙◌, ◌++◌, ◌≤◌, ℕ, List, [], ◌∷◌, length, map, Option, Some, None, IfSome, refl, sym, ap, subst, inl, inr, arith}
+use Rattle.std.proofs.lemmas.List.{append-nil, append_assoc, map-append}
+use Rattle.std.proofs.lemmas.List.Elements.{All-append, All-cons, All-head, All-nil, All-push, All-tail}
+use Rattle.std.specs.List.{All}
+use Rattle.command_groups.proofs.Flat.{places_more}
+use Rattle.command_groups.specs.Groups.{stores_of}
+use Rattle.command_groups.specs.Opened.{AreUnused, IsFresh, IsGroupAt, OpensGroups, all_locations, files_in, locations_in}
+use Rattle.command_outcome.specs.declared.outcome.Outcome.{Outcome}
+use Rattle.command_steps.proofs.Consulted.{reads_none}
+use Rattle.command_steps.proofs.OpenedSources.{unreached_after}
+use Rattle.command_steps.specs.AnyStores.{IsKnown, source_faults}
+use Rattle.command_steps.specs.Sources.{FirstUnreached, IsThere, location_files}
+use Rattle.command_steps.specs.declared.any_store.AnyStore.{AnyStore}
+use Rattle.command_words.specs.declared.command.Location.{Location}
+use Rattle.command_worlds.specs.Worlds.{Reads}
+use Rattle.dsy_base.specs.Disk.{Disk}
+use Rattle.dsy_base.specs.Links.{DialState}
+use Rattle.dsy_base.specs.Maps.{Map}
+use Rattle.dsy_base.specs.declared.look.Look.{Ghosts as LookWords}
+use Rattle.store_chain.proofs.Pairs.{cons_head, cons_tail}
+use Rattle.store_group.specs.Groups.{Grouped}
+
+-- ---- the first that isn't reached
+
+files_of : Option (Map (Map (List ℕ))) → Location → Option (Map (List ℕ))
+files_of None q = None
+files_of (Some m) q = location_files m q
+
+files_are : (o : Option (Map (Map (List ℕ)))) (q : Location) → IfSome o (λ m. files_of o q ≡ location_files m q)
+files_are None q = tt
+files_are (Some m) q = refl
+
+there_then : (d b e : Disk) → Reads d b → (q : Location) (names : List Location) (o : Outcome) → IfSome d.folders (λ m. IsThere m q) → FirstUnreached b e names o → FirstUnreached d e (q ∷ names) o
+there_then d b e r q names o there h =
+    unreached_after (files_of d.folders) (λ s. s) (λ s. 0) d b b e r (reads_none b) q names q o (record { there = there; found = files_are d.folders q; located = refl; unfailed = refl }) h
+
+first_there : (o : Option (Map (Map (List ℕ)))) (q : Location) (names : List Location) → IfSome o (λ m. All (IsThere m) (q ∷ names)) → IfSome o (λ m. IsThere m q)
+first_there None q names all = tt
+first_there (Some m) q names all = All-head (IsThere m) q names all
+
+rest_there : (o : Option (Map (Map (List ℕ)))) (q : Location) (names : List Location) → IfSome o (λ m. All (IsThere m) (q ∷ names)) → IfSome o (λ m. All (IsThere m) names)
+rest_there None q names all = tt
+rest_there (Some m) q names all = All-tail (IsThere m) q names all
+
+-- one of a later group, after those of this one were there
+pub unreached_behind : (d b e : Disk) → Reads d b → (front rest : List Location) (o : Outcome) → 1 ≤ length front → IfSome d.folders (λ m. All (IsThere m) front) → FirstUnreached b e rest o → FirstUnreached d e (front ++ rest) o
+unreached_behind d b e r [] rest o some there h = absurd (omega (arith, some))
+unreached_behind d b e r (q ∷ []) rest o some there h = there_then d b e r q rest o (first_there d.folders q [] there) h
+unreached_behind d b e r (q ∷ p ∷ front) rest o some there h =
+    inr (first_there d.folders q (p ∷ front) there, unreached_behind d b e r (p ∷ front) rest o (omega arith) (rest_there d.folders q (p ∷ front) there) h)
+
+-- or one of this group
+pub unreached_before : (d e : Disk) (front rest : List Location) (o : Outcome) → FirstUnreached d e front o → FirstUnreached d e (front ++ rest) o
+unreached_before d e [] rest o h = absurd h
+unreached_before d e (q ∷ front) rest o (inl h) = inl h
+unreached_before d e (q ∷ front) rest o (inr h) = inr (h.0, unreached_before d e front rest o h.1)
+
+-- there was no memory
+pub unreached_memory : (d e : Disk) (names : List Location) (o : Outcome) → 1 ≤ length names → ((q : Location) → FirstUnreached d e (q ∷ []) o) → FirstUnreached d e names o
+unreached_memory d e [] o some none = absurd (omega (arith, some))
+unreached_memory d e (q ∷ names) o some none = unreached_before d e (q ∷ []) names o (none q)
+
+pub there_both : (o : Option (Map (Map (List ℕ)))) (front rest : List Location) → IfSome o (λ m. All (IsThere m) front) → IfSome o (λ m. All (IsThere m) rest) → IfSome o (λ m. All (IsThere m) (front ++ rest))
+there_both None front rest a b = tt
+there_both (Some m) front rest a b = All-append (IsThere m) front rest a b
+
+-- ---- stores that were just opened
+
+pub zeros_all : {S X : Type 0} (counted : S → ℕ) (xs : List S) (names : List X) → map counted xs ≡ map (λ q. 0) names → All (λ s. counted s ≡ 0) xs
+zeros_all counted [] names same = All-nil (λ s. counted s ≡ 0)
+zeros_all counted (x ∷ xs) [] same = absurd (cc)
+zeros_all counted (x ∷ xs) (q ∷ names) same =
+    All-cons (λ s. counted s ≡ 0) x xs (cons_head (counted x) 0 (map counted xs) (map (λ q. 0) names) same) (zeros_all counted xs names (cons_tail (counted x) 0 (map counted xs) (map (λ q. 0) names) same))
+
+-- ---- groups that are appended one by one
+
+module _ {L D K : Type 0} (look : LookWords L) (state : D → DialState) (retries : ℕ) where
+  abbrev G : Type 0
+  G = Grouped (AnyStore L D K)
+
+  abbrev Opens : Option (Map (Map (List ℕ))) → List (List Location) → List G → List G → Type 0
+  Opens = OpensGroups look state retries
+
+  there_in : (m : Map (Map (List ℕ))) (groups : List (List Location)) (old new : List G) → Opens (Some m) groups old new → All (IsThere m) (stores_of groups)
+  there_in m [] old new h = All-nil (IsThere m)
+  there_in m (names ∷ groups) old new h = All-append (IsThere m) names (stores_of groups) h.1.there (there_in m groups (old ++ h.0 ∷ []) new h.2)
+
+  pub groups_there : (folders : Option (Map (Map (List ℕ)))) (groups : List (List Location)) (old new : List G) → Opens folders groups old new → IfSome folders (λ m. All (IsThere m) (stores_of groups))
+  groups_there None groups old new h = tt
+  groups_there (Some m) groups old new h = there_in m groups old new h
+
+  -- what is made of each group, behind what was made of those before
+  made_in : {X : Type 0} (of : G → X) (from : List Location → X) (folders : Option (Map (Map (List ℕ)))) → ((names : List Location) (g : G) → IsGroupAt look state retries folders names g → of g ≡ from names)
+      → (groups : List (List Location)) (old new : List G) → Opens folders groups old new → map of new ≡ map of old ++ map from groups
+  made_in of from folders each [] old new h = ap (λ (l : List G). map of l) h ∙ sym (append-nil (map of old))
+  made_in {X} of from folders each (names ∷ groups) old new h =
+      let one : map of (old ++ h.0 ∷ []) ≡ map of old ++ from names ∷ [] = map-append of old (h.0 ∷ []) ∙ ap (λ (x : X). map of old ++ x ∷ []) (each names h.0 h.1) in
+      made_in of from folders each groups (old ++ h.0 ∷ []) new h.2 ∙ ap (λ (l : List X). l ++ map from groups) one ∙ append_assoc (map of old) (from names ∷ []) (map from groups)
+
+  from_none : {X : Type 0} (of : G → X) (from : List Location → X) (folders : Option (Map (Map (List ℕ)))) → ((names : List Location) (g : G) → IsGroupAt look state retries folders names g → of g ≡ from names)
+      → (groups : List (List Location)) (old new : List G) → old ≡ [] → Opens folders groups old new → map of new ≡ map from groups
+  from_none of from folders each groups old new is h = made_in of from folders each groups [] new (subst (λ (l : List G). Opens folders groups l new) is h)
+
+  pub groups_found : (folders : Option (Map (Map (List ℕ)))) (groups : List (List Location)) (old new : List G) → old ≡ [] → Opens folders groups old new → IfSome folders (λ m. map (files_in look.files) new ≡ map (map (location_files m)) groups)
+  groups_found None groups old new is h = tt
+  groups_found (Some m) groups old new is h = from_none (files_in look.files) (map (location_files m)) (Some m) (λ names g at. at.found) groups old new is h
+
+  pub groups_located : (folders : Option (Map (Map (List ℕ)))) (groups : List (List Location)) (old new : List G) → old ≡ [] → Opens folders groups old new → map (locations_in look.place) new ≡ groups
+  groups_located folders groups old new is h = from_none (locations_in look.place) (λ names. names) folders (λ names g at. at.located) groups old new is h ∙ same groups where
+    same : (l : List (List Location)) → map (λ names. names) l ≡ l
+    same [] = refl
+    same (q ∷ l) = ap (λ (m : List (List Location)). q ∷ m) (same l)
+
+  all_in : (P : G → Type 0) (folders : Option (Map (Map (List ℕ)))) → ((names : List Location) (g : G) → IsGroupAt look state retries folders names g → P g) → (groups : List (List Location)) (old new : List G) → All P old → Opens folders groups old new → All P new
+  all_in P folders each [] old new all h = subst (λ (l : List G). All P l) (sym h) all
+  all_in P folders each (names ∷ groups) old new all h = all_in P folders each groups (old ++ h.0 ∷ []) new (All-push P old h.0 all (each names h.0 h.1)) h.2
+
+  pub groups_fresh : (folders : Option (Map (Map (List ℕ)))) (groups : List (List Location)) (old new : List G) → old ≡ [] → Opens folders groups old new → All (IsFresh (source_faults look.faults state) retries) new
+  groups_fresh folders groups old new is h =
+      let P = IsFresh (source_faults look.faults state) retries in
+      all_in P folders (λ names g at. at.fresh) groups old new (subst (λ (l : List G). All P l) (sym is) (All-nil P)) h
+
+  pub groups_unused : (folders : Option (Map (Map (List ℕ)))) (groups : List (List Location)) (old new : List G) → old ≡ [] → Opens folders groups old new → All (AreUnused state) new
+  groups_unused folders groups old new is h =
+      let P : G → Type 0 = AreUnused state in
+      all_in P folders (λ names g at. at.unused) groups old new (subst (λ (l : List G). All P l) (sym is) (All-nil P)) h
+
+-- the names of the stores of one group more are known
+pub groups_known : {S : Type 0} (of : S → List Location) (counts : Map ℕ) (old new : List S) (g : S) → new ≡ old ++ g ∷ [] → All (IsKnown counts) (stores_of (map of old)) → All (IsKnown counts) (of g) → All (IsKnown counts) (stores_of (map of new))
+groups_known of counts old new g is known one =
+    subst (λ (l : List Location). All (IsKnown counts) l) (sym (places_more of new old g is)) (All-append (IsKnown counts) (stores_of (map of old)) (of g) known one)

@@ -1,0 +1,27 @@
+-- What contracts see of the stores of a command, one by one and in groups.
+use Rattle.std.proofs.Common.{false, true}
+use Rattle.chunk_store.specs.declared.store.Store.{Ghosts as StoreWords}
+use Rattle.command_steps.specs.AnyStores.{asked_in, chunks_in, place_in, said_in, source_faults, source_files, source_sent}
+use Rattle.command_steps.specs.declared.any_store.AnyStore.{AnyStore}
+use Rattle.dsy_base.specs.Links.{DialState}
+use Rattle.dsy_base.specs.declared.look.Look.{Ghosts as LookWords}
+use Rattle.http_wire.specs.declared.reply.Method.TheVariants as method
+use Rattle.store_group.specs.Groups.{Grouped, as_store}
+
+abbrev pub any_words : {L D K : Type 0} → LookWords L → (D → DialState) → StoreWords (AnyStore L D K)
+any_words look state = record {
+  holds = chunks_in look.files;
+  folder = source_files look.files;
+  said = said_in look.files state;
+  sent = source_sent state;
+  asked = asked_in method.Get state;
+  queried = asked_in method.Head state;
+  faults = source_faults look.faults state;
+  place = place_in look.place;
+  tells = false;
+  never_fails = false;
+  may_lack_memory = true;
+}
+
+abbrev pub group_words : {L D K : Type 0} → LookWords L → (D → DialState) → StoreWords (Grouped (AnyStore L D K))
+group_words look state = as_store (any_words look state)
