@@ -21,6 +21,7 @@ use Rattle.chunk_store.specs.Folders.{chunks}
 use Rattle.chunk_store.specs.declared.store.Store.{Ghosts as StoreWords}
 use Rattle.command_steps.proofs.Cached.{given_adds, given_folders}
 use Rattle.command_steps.proofs.Dialed.{dials_none, dials_twice}
+use Rattle.command_groups.proofs.Given.{group_given_earlier, group_given_longer}
 use Rattle.command_groups.proofs.Quiet.{groups_quiet}
 use Rattle.command_groups.proofs.Stand.{folders_still, found_after, fresh_counts, groups_hold, groups_stand_still, groups_tell}
 use Rattle.command_groups.proofs.Standing.{GroupStands, all_groups_stand}
@@ -29,7 +30,6 @@ use Rattle.command_groups.specs.Asking.{GroupsDialed, WorkersGroupsDialed, with_
 use Rattle.command_groups.specs.Groups.{group_files, stores_of}
 use Rattle.command_groups.specs.Numbers.{answer_of_stores}
 use Rattle.command_groups.specs.Opened.{IsGroupGiven, files_in, locations_in, told_files, with_group}
-use Rattle.command_steps.proofs.Given.{given_earlier, given_longer}
 use Rattle.command_steps.proofs.Lent.{each_quiet, store_rose}
 use Rattle.command_steps.proofs.Numbers.{given_quiet, given_rose, rose_longer, rose_not_quiet}
 use Rattle.command_steps.specs.AnyStores.{location_in, source_faults}
@@ -334,15 +334,8 @@ module _ {L V D K : Type 0} (look : LookWords L) (view : ViewWords V) (state : D
     rises = store_rose (faults_in view.faults) (label_in view.held) d'.file_counts x.b3.file_counts e.file_counts n.to_closed x.k.seeds.items x.j.seeds.items labels fresh_seeds labelled seeds_added
 
     given_stores : All (IsGroupGiven look.place look.faults state w v) now
-    given_stores i g lt =
-        let given = x.given i g lt in
-        let stores = (slice_index_or now i g).stores in
-        record {
-          stores = λ j s less. given_longer look.place look.faults state w (storage x.b3 k1) v n.from_closed (dials_twice k0 x.first.dial k1 kits_back.dial x.stores.dial) (dials_none k1) (slice_index_or stores j s)
-              (given_earlier look.place look.faults state w (storage x.bc x.first.dial) (storage x.b3 k1) n.to_cached kits_back.dial x.stores.dial (slice_index_or stores j s) (given.stores j s less));
-          counts = given.counts;
-          active = given.active;
-        }
+    given_stores i g lt = group_given_longer look.place look.faults state w (storage x.b3 k1) v n.from_closed (dials_twice k0 x.first.dial k1 kits_back.dial x.stores.dial) (dials_none k1) (slice_index_or now i g)
+        (group_given_earlier look.place look.faults state w (storage x.bc x.first.dial) (storage x.b3 k1) n.to_cached kits_back.dial x.stores.dial (slice_index_or now i g) (x.given i g lt))
 
     located : (ys : List (Grouped (AnyStore L D K))) → map words.place ys ≡ map words.place was → map location ys ≡ names.groups
     located ys placed = groups_stand_still look.place was ys placed ∙ one.located

@@ -66,7 +66,8 @@ pub fn reach<F: Files, D: Dial>(
     let Ok(kits) = Vec::with_capacity(alloc, workers) else {
         return Err(Outcome::Memory);
     };
-    let stores = match open_groups(alloc, files, dial, stores.groups.as_slice(), stores.retries) {
+    let groups = stores.groups.as_slice();
+    let stores = match open_groups(alloc, files, dial, groups, stores.retries) {
         Ok(stores) => stores,
         Err(outcome) => return Err(outcome),
     };

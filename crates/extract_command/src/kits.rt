@@ -38,7 +38,8 @@ fn open_kit<F: Files, D: Dial>(
     ensures kept { Reads (F.disk files.old) (F.disk files.new) }
     ensures used { Uses (map image_name seeds.now) (folders_among (stores_of stores.now.groups)) (F.disk files.old) (F.disk files.new) }
 {
-    let Ok(stores) = open_groups(alloc, files, dial, stores.groups.as_slice(), stores.retries) else {
+    let groups = stores.groups.as_slice();
+    let Ok(stores) = open_groups(alloc, files, dial, groups, stores.retries) else {
         return None;
     };
     match open_seeds(alloc, files, seeds) {
