@@ -88,40 +88,37 @@ module _ {L D K : Type 0} (m : Method) (state : D → DialState) where
 -- ---- group by group
 
 module _ {L D K : Type 0} (place : L → List ℕ) (state : D → DialState) where
-  abbrev G : Type 0
-  G = Grouped (AnyStore L D K)
-
-  abbrev after : G → Option (List Traffic) → Option (List Traffic)
+  abbrev after : Grouped (AnyStore L D K) → Option (List Traffic) → Option (List Traffic)
   after g old = with_group state old g
 
   -- what holds of each group holds of all, one after the other
-  groups_dialed : (P Q : Server → List Traffic → Type 0) (R : G → G → Type 0) → ((g h : G) (old : Option (List Traffic)) → R g h → GroupDialed P Q (locations_in place h) old (after h old)) → (xs ys : List G) (old : Option (List Traffic))
+  groups_dialed : (P Q : Server → List Traffic → Type 0) (R : Grouped (AnyStore L D K) → (Grouped (AnyStore L D K)) → Type 0) → ((g h : Grouped (AnyStore L D K)) (old : Option (List Traffic)) → R g h → GroupDialed P Q (locations_in place h) old (after h old)) → (xs ys : List (Grouped (AnyStore L D K))) (old : Option (List Traffic))
       → AllZip R xs ys → GroupsDialed P Q (map (locations_in place) ys) old (fold (with_group state) old ys)
   groups_dialed P Q R one [] [] old h = refl
   groups_dialed P Q R one [] (y ∷ ys) old h = absurd h
   groups_dialed P Q R one (x ∷ xs) [] old h = absurd h
   groups_dialed P Q R one (x ∷ xs) (y ∷ ys) old h = (after y old, one x y old h.0, groups_dialed P Q R one xs ys (after y old) h.1)
 
-  located_dialed : (P Q : Server → List Traffic → Type 0) (ys : List G) (groups : List (List Location)) (old new : Option (List Traffic)) → map (locations_in place) ys ≡ groups → new ≡ fold (with_group state) old ys
+  located_dialed : (P Q : Server → List Traffic → Type 0) (ys : List (Grouped (AnyStore L D K))) (groups : List (List Location)) (old new : Option (List Traffic)) → map (locations_in place) ys ≡ groups → new ≡ fold (with_group state) old ys
       → GroupsDialed P Q (map (locations_in place) ys) old (fold (with_group state) old ys) → GroupsDialed P Q groups old new
   located_dialed P Q ys groups old new located ended h = subst (λ l. GroupsDialed P Q l old new) located (subst (λ o. GroupsDialed P Q (map (locations_in place) ys) old o) (sym ended) h)
 
   module _ (files : L → Option (Map (List ℕ))) (e : ℕ) where
     -- how often a group was asked more than before, and what it was sent
-    abbrev Few : Method → (List ℕ → ℕ) → G → G → Type 0
+    abbrev Few : Method → (List ℕ → ℕ) → (Grouped (AnyStore L D K)) → (Grouped (AnyStore L D K)) → Type 0
     Few m n a b = (q : List ℕ) → group_count (asked_in m state) b q ≤ group_count (asked_in m state) a q + n q
 
-    abbrev Sent : (Ask → Type 0) → G → G → Type 0
+    abbrev Sent : (Ask → Type 0) → (Grouped (AnyStore L D K)) → (Grouped (AnyStore L D K)) → Type 0
     Sent P a b = Sends P (sent_of (source_sent state) (source_files files) a.stores) (sent_of (source_sent state) (source_files files) b.stores)
 
     -- it was unused before, and stands where it stood, with as many retries
-    abbrev Lent : G → G → Type 0
+    abbrev Lent : Grouped (AnyStore L D K) → (Grouped (AnyStore L D K)) → Type 0
     Lent a b = AreUnused state a × (b.retries ≡ e) × (locations_in place b ≡ locations_in place a)
 
-    lent : (xs ys : List G) → All (AreUnused state) xs → All (λ g. g.retries ≡ e) ys → map (locations_in place) ys ≡ map (locations_in place) xs → AllZip Lent xs ys
+    lent : (xs ys : List (Grouped (AnyStore L D K))) → All (AreUnused state) xs → All (λ g. g.retries ≡ e) ys → map (locations_in place) ys ≡ map (locations_in place) xs → AllZip Lent xs ys
     lent xs ys unused tries stands =
         first_zip (AreUnused state) (λ a b. (b.retries ≡ e) × (locations_in place b ≡ locations_in place a)) xs ys unused
-        (second_zip (λ (g : G). g.retries ≡ e) (λ a b. locations_in place b ≡ locations_in place a) xs ys tries (map_zip (locations_in place) xs ys stands))
+        (second_zip (λ (g : Grouped (AnyStore L D K)). g.retries ≡ e) (λ a b. locations_in place b ≡ locations_in place a) xs ys tries (map_zip (locations_in place) xs ys stands))
 
     -- ---- one group
 
@@ -167,13 +164,13 @@ module _ {L D K : Type 0} (place : L → List ℕ) (state : D → DialState) whe
 
     -- ---- groups that were unused, and given back after they were asked so
 
-    pub groups_asked : (gets heads : List ℕ → ℕ) (P : Ask → Type 0) (xs ys : List G) (groups : List (List Location)) (old new : Option (List Traffic)) → All (AreUnused state) xs → All (λ g. g.retries ≡ e) ys → map (locations_in place) ys ≡ map (locations_in place) xs
+    pub groups_asked : (gets heads : List ℕ → ℕ) (P : Ask → Type 0) (xs ys : List (Grouped (AnyStore L D K))) (groups : List (List Location)) (old new : Option (List Traffic)) → All (AreUnused state) xs → All (λ g. g.retries ≡ e) ys → map (locations_in place) ys ≡ map (locations_in place) xs
         → AllZip (Few method.Get gets) xs ys → AllZip (Few method.Head heads) xs ys → AllZip (Sent P) xs ys
         → map (locations_in place) ys ≡ groups → new ≡ fold (with_group state) old ys → GroupsAsked e gets heads P groups old new
     groups_asked gets heads P xs ys groups old new unused tries stands get head sends located ended =
         let A = AsksOnly (with_retries e gets) (with_retries e heads) P in
         let B = Asks (with_retries e gets) (with_retries e heads) in
-        let R : G → G → Type 0 = λ a b. Lent a b × (Few method.Get gets a b × (Few method.Head heads a b × Sent P a b)) in
+        let R : Grouped (AnyStore L D K) → (Grouped (AnyStore L D K)) → Type 0 = λ a b. Lent a b × (Few method.Get gets a b × (Few method.Head heads a b × Sent P a b)) in
         located_dialed A B ys groups old new located ended
         (groups_dialed A B R
         (λ g h o r. (let many = sym (many_stores place h g r.0.2) in
@@ -182,7 +179,7 @@ module _ {L D K : Type 0} (place : L → List ℕ) (state : D → DialState) whe
         (both_zip (Few method.Get gets) (λ a b. Few method.Head heads a b × Sent P a b) xs ys get (both_zip (Few method.Head heads) (Sent P) xs ys head sends))))
 
     -- the same of chunks alone
-    pub groups_got : (gets : List ℕ → ℕ) (xs ys : List G) (groups : List (List Location)) (old new : Option (List Traffic)) → All (AreUnused state) xs → All (λ g. g.retries ≡ e) ys → map (locations_in place) ys ≡ map (locations_in place) xs
+    pub groups_got : (gets : List ℕ → ℕ) (xs ys : List (Grouped (AnyStore L D K))) (groups : List (List Location)) (old new : Option (List Traffic)) → All (AreUnused state) xs → All (λ g. g.retries ≡ e) ys → map (locations_in place) ys ≡ map (locations_in place) xs
         → AllZip (Few method.Get gets) xs ys → map (locations_in place) ys ≡ groups → new ≡ fold (with_group state) old ys
         → GroupsDialed (AsksFew method.Get (with_retries e gets)) (AsksFew method.Get (with_retries e gets)) groups old new
     groups_got gets xs ys groups old new unused tries stands get located ended =
@@ -193,7 +190,7 @@ module _ {L D K : Type 0} (place : L → List ℕ) (state : D → DialState) whe
         (both_zip Lent (Few method.Get gets) xs ys (lent xs ys unused tries stands) get))
 
     -- and of what those of groups of one store were sent
-    pub groups_sent : (P : Ask → Type 0) (xs ys : List G) (groups : List (List Location)) (old new : Option (List Traffic)) → All (AreUnused state) xs → All (λ g. g.retries ≡ e) ys → map (locations_in place) ys ≡ map (locations_in place) xs
+    pub groups_sent : (P : Ask → Type 0) (xs ys : List (Grouped (AnyStore L D K))) (groups : List (List Location)) (old new : Option (List Traffic)) → All (AreUnused state) xs → All (λ g. g.retries ≡ e) ys → map (locations_in place) ys ≡ map (locations_in place) xs
         → AllZip (Sent P) xs ys → map (locations_in place) ys ≡ groups → new ≡ fold (with_group state) old ys → GroupsDialed (SendsFronts P) (λ s ended. Unit {0}) groups old new
     groups_sent P xs ys groups old new unused tries stands sends located ended =
         located_dialed (SendsFronts P) (λ s ended. Unit {0}) ys groups old new located ended

@@ -23,23 +23,17 @@ consults_both w u v front more all same h k =
     (consults_twice w u v h.0 k.0, λ t. k.1 (both t).1 ∙ h.1 (both t).0)
 
 module _ {L D K : Type 0} (place : L → List ℕ) (faults : L → ℕ) (state : D → DialState) where
-  abbrev G : Type 0
-  G = Grouped (AnyStore L D K)
-
-  abbrev Given : Storage → Storage → G → Type 0
-  Given = IsGroupGiven place faults state
-
   -- what was added after more had been consulted, and before
-  pub group_given_earlier : (w u v : Storage) → ((q : List ℕ) → count_at w.disk.folder_counts q ≤ count_at u.disk.folder_counts q) → Dials w.dial u.dial → Dials u.dial v.dial → (g : G) → Given u v g → Given w v g
+  pub group_given_earlier : (w u v : Storage) → ((q : List ℕ) → count_at w.disk.folder_counts q ≤ count_at u.disk.folder_counts q) → Dials w.dial u.dial → Dials u.dial v.dial → (g : Grouped (AnyStore L D K)) → IsGroupGiven place faults state u v g → IsGroupGiven place faults state w v g
   group_given_earlier w u v le a b g given =
       record { stores = λ k d lt. given_earlier place faults state w u v le a b (slice_index_or g.stores k d) (given.stores k d lt); counts = given.counts; active = given.active }
 
-  pub group_given_longer : (w v u : Storage) → ((q : List ℕ) → count_at v.disk.folder_counts q ≤ count_at u.disk.folder_counts q) → Dials w.dial v.dial → Dials v.dial u.dial → (g : G) → Given w v g → Given w u g
+  pub group_given_longer : (w v u : Storage) → ((q : List ℕ) → count_at v.disk.folder_counts q ≤ count_at u.disk.folder_counts q) → Dials w.dial v.dial → Dials v.dial u.dial → (g : Grouped (AnyStore L D K)) → IsGroupGiven place faults state w v g → IsGroupGiven place faults state w u g
   group_given_longer w v u le a b g given =
       record { stores = λ k d lt. given_longer place faults state w v u le a b (slice_index_or g.stores k d) (given.stores k d lt); counts = given.counts; active = given.active }
 
   -- the rest was given back, and then the last
-  pub groups_given_more : (w u v : Storage) (all rest : List G) (x : G) → all ≡ rest ++ x ∷ [] → Consults w u → Consults u v → All (Given w u) rest → Given u v x → All (Given w v) all
-  groups_given_more w u v all rest x is a b before last = subst (λ l. All (Given w v) l) (sym is) (All-push (Given w v) rest x
+  pub groups_given_more : (w u v : Storage) (all rest : List (Grouped (AnyStore L D K))) (x : Grouped (AnyStore L D K)) → all ≡ rest ++ x ∷ [] → Consults w u → Consults u v → All (IsGroupGiven place faults state w u) rest → IsGroupGiven place faults state u v x → All (IsGroupGiven place faults state w v) all
+  groups_given_more w u v all rest x is a b before last = subst (λ l. All (IsGroupGiven place faults state w v) l) (sym is) (All-push (IsGroupGiven place faults state w v) rest x
       (λ k d lt. group_given_longer w u v b.disk.folder_counts a.dial b.dial (slice_index_or rest k d) (before k d lt))
       (group_given_earlier w u v a.disk.folder_counts a.dial b.dial x last))

@@ -1,5 +1,5 @@
 -- What groups that were given back have said of a chunk that they refused, and under which numbers.
-use Rattle.std.proofs.Common.{◌≡◌, ◌∙◌, ◌+◌, ◌<◌, ◌≤◌, ℕ, zero, suc, List, [], ◌∷◌, ◌++◌, length, map, take, slice_index, slice_index_or, Option, Some, None, Bool, refl, sym, ap, subst, inl, inr, arith}
+use Rattle.std.proofs.Common.{◌≡◌, ◌∙◌, ◌⊎◌, ◌+◌, ◌<◌, ◌≤◌, ℕ, zero, suc, List, [], ◌∷◌, ◌++◌, length, map, take, slice_index, slice_index_or, Option, Some, None, Bool, refl, sym, ap, subst, inl, inr, arith}
 use Rattle.std.proofs.lemmas.List.{length-append, length-map}
 use Rattle.std.proofs.lemmas.List.Elements.{All-cons, All-head, All-nil, All-tail}
 use Rattle.std.specs.List.{All, zip}
@@ -16,7 +16,7 @@ use Rattle.command_words.specs.declared.command.Location.{Location}
 use Rattle.dsy_base.specs.Counts.{Rose}
 use Rattle.dsy_base.specs.Maps.{Map}
 use Rattle.store_chain.proofs.Pairs.{cons_head, cons_tail}
-use Rattle.store_chain.specs.Giving.{LacksAll}
+use Rattle.store_chain.specs.Giving.{Gives, HoldsElse, HoldsNone, LacksAll}
 use Rattle.store_chain.specs.Lists.{FirstAt}
 use Rattle.store_chain.specs.Refusals.{HasShown, Lacks, Refuses}
 use Rattle.store_chain.specs.declared.query.Query.{Query}
@@ -70,7 +70,7 @@ module _ (e : ℕ) (c : Query) (w v : Storage) (groups : List (List Location)) w
       → HaveLackedIn e c w v groups (refused.Damaged (first_store groups k + slice_index active k) x)
   damaged_numbered active inside k x h =
       let at = inside k (first_inside (λ g. (group_said w v g).denied c.id.0) (λ g. HasShown c x (group_said w v g)) (λ g. Lacks c (group_said w v g)) k groups h) in
-      (refused.Damaged k x, (first_store groups k + slice_index active k, refl, omega arith, omega (arith, at)), h)
+      (refused.Damaged k x, (first_store groups k + slice_index active k, refl, (omega arith, omega (arith, at))), h)
 
   pub fault_numbered : (k : ℕ) → GroupsLack e c w v groups (refused.StoreFault k) → HaveLackedIn e c w v groups (refused.StoreFault (first_store groups k))
   fault_numbered k h = (refused.StoreFault k, refl, h)
@@ -111,7 +111,7 @@ pub lacks_numbered : (m : Map (Map (List ℕ))) (groups : List (List Location)) 
     → (by_group r : Refused) → IsNumbered groups by_group r → LacksAll c maps by_group → LacksAll c maps r
 lacks_numbered m groups fs told c maps many refused.Missing r is h = subst (LacksAll c maps) (sym is) h
 lacks_numbered m groups fs told c maps many (refused.Damaged k x) r is h =
-    let lt = first_inside _ _ _ k maps h in
+    let lt = first_inside (HoldsNone c) (HoldsElse c x) (λ y. Gives c y → ⊥) k maps h in
     let same = store_of_single groups (told_singles m groups fs told) k is.0 (omega (arith, lt, many)) is.2 in
     subst (LacksAll c maps) (sym is.1) (subst (λ (n : ℕ). LacksAll c maps (refused.Damaged n x)) (sym same) h)
 lacks_numbered m groups fs told c maps many (refused.StoreFault k) r is h = subst (LacksAll c maps) (sym is) tt

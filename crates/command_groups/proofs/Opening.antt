@@ -23,7 +23,7 @@ use Rattle.store_group.specs.Groups.{Grouped}
 
 -- ---- the first that isn't reached
 
-files_of : Option (Map (Map (List ℕ))) → Location → Option (Map (List ℕ))
+abbrev files_of : Option (Map (Map (List ℕ))) → Location → Option (Map (List ℕ))
 files_of None q = None
 files_of (Some m) q = location_files m q
 
@@ -76,55 +76,49 @@ zeros_all counted (x ∷ xs) (q ∷ names) same =
 -- ---- groups that are appended one by one
 
 module _ {L D K : Type 0} (look : LookWords L) (state : D → DialState) (retries : ℕ) where
-  abbrev G : Type 0
-  G = Grouped (AnyStore L D K)
-
-  abbrev Opens : Option (Map (Map (List ℕ))) → List (List Location) → List G → List G → Type 0
-  Opens = OpensGroups look state retries
-
-  there_in : (m : Map (Map (List ℕ))) (groups : List (List Location)) (old new : List G) → Opens (Some m) groups old new → All (IsThere m) (stores_of groups)
+  there_in : (m : Map (Map (List ℕ))) (groups : List (List Location)) (old new : List (Grouped (AnyStore L D K))) → OpensGroups look state retries (Some m) groups old new → All (IsThere m) (stores_of groups)
   there_in m [] old new h = All-nil (IsThere m)
   there_in m (names ∷ groups) old new h = All-append (IsThere m) names (stores_of groups) h.1.there (there_in m groups (old ++ h.0 ∷ []) new h.2)
 
-  pub groups_there : (folders : Option (Map (Map (List ℕ)))) (groups : List (List Location)) (old new : List G) → Opens folders groups old new → IfSome folders (λ m. All (IsThere m) (stores_of groups))
+  pub groups_there : (folders : Option (Map (Map (List ℕ)))) (groups : List (List Location)) (old new : List (Grouped (AnyStore L D K))) → OpensGroups look state retries folders groups old new → IfSome folders (λ m. All (IsThere m) (stores_of groups))
   groups_there None groups old new h = tt
   groups_there (Some m) groups old new h = there_in m groups old new h
 
   -- what is made of each group, behind what was made of those before
-  made_in : {X : Type 0} (of : G → X) (from : List Location → X) (folders : Option (Map (Map (List ℕ)))) → ((names : List Location) (g : G) → IsGroupAt look state retries folders names g → of g ≡ from names)
-      → (groups : List (List Location)) (old new : List G) → Opens folders groups old new → map of new ≡ map of old ++ map from groups
-  made_in of from folders each [] old new h = ap (λ (l : List G). map of l) h ∙ sym (append-nil (map of old))
+  made_in : {X : Type 0} (of : Grouped (AnyStore L D K) → X) (from : List Location → X) (folders : Option (Map (Map (List ℕ)))) → ((names : List Location) (g : Grouped (AnyStore L D K)) → IsGroupAt look state retries folders names g → of g ≡ from names)
+      → (groups : List (List Location)) (old new : List (Grouped (AnyStore L D K))) → OpensGroups look state retries folders groups old new → map of new ≡ map of old ++ map from groups
+  made_in of from folders each [] old new h = ap (λ (l : List (Grouped (AnyStore L D K))). map of l) h ∙ sym (append-nil (map of old))
   made_in {X} of from folders each (names ∷ groups) old new h =
       let one : map of (old ++ h.0 ∷ []) ≡ map of old ++ from names ∷ [] = map-append of old (h.0 ∷ []) ∙ ap (λ (x : X). map of old ++ x ∷ []) (each names h.0 h.1) in
       made_in of from folders each groups (old ++ h.0 ∷ []) new h.2 ∙ ap (λ (l : List X). l ++ map from groups) one ∙ append_assoc (map of old) (from names ∷ []) (map from groups)
 
-  from_none : {X : Type 0} (of : G → X) (from : List Location → X) (folders : Option (Map (Map (List ℕ)))) → ((names : List Location) (g : G) → IsGroupAt look state retries folders names g → of g ≡ from names)
-      → (groups : List (List Location)) (old new : List G) → old ≡ [] → Opens folders groups old new → map of new ≡ map from groups
-  from_none of from folders each groups old new is h = made_in of from folders each groups [] new (subst (λ (l : List G). Opens folders groups l new) is h)
+  from_none : {X : Type 0} (of : Grouped (AnyStore L D K) → X) (from : List Location → X) (folders : Option (Map (Map (List ℕ)))) → ((names : List Location) (g : Grouped (AnyStore L D K)) → IsGroupAt look state retries folders names g → of g ≡ from names)
+      → (groups : List (List Location)) (old new : List (Grouped (AnyStore L D K))) → old ≡ [] → OpensGroups look state retries folders groups old new → map of new ≡ map from groups
+  from_none of from folders each groups old new is h = made_in of from folders each groups [] new (subst (λ (l : List (Grouped (AnyStore L D K))). OpensGroups look state retries folders groups l new) is h)
 
-  pub groups_found : (folders : Option (Map (Map (List ℕ)))) (groups : List (List Location)) (old new : List G) → old ≡ [] → Opens folders groups old new → IfSome folders (λ m. map (files_in look.files) new ≡ map (map (location_files m)) groups)
+  pub groups_found : (folders : Option (Map (Map (List ℕ)))) (groups : List (List Location)) (old new : List (Grouped (AnyStore L D K))) → old ≡ [] → OpensGroups look state retries folders groups old new → IfSome folders (λ m. map (files_in look.files) new ≡ map (map (location_files m)) groups)
   groups_found None groups old new is h = tt
   groups_found (Some m) groups old new is h = from_none (files_in look.files) (map (location_files m)) (Some m) (λ names g at. at.found) groups old new is h
 
-  pub groups_located : (folders : Option (Map (Map (List ℕ)))) (groups : List (List Location)) (old new : List G) → old ≡ [] → Opens folders groups old new → map (locations_in look.place) new ≡ groups
+  pub groups_located : (folders : Option (Map (Map (List ℕ)))) (groups : List (List Location)) (old new : List (Grouped (AnyStore L D K))) → old ≡ [] → OpensGroups look state retries folders groups old new → map (locations_in look.place) new ≡ groups
   groups_located folders groups old new is h = from_none (locations_in look.place) (λ names. names) folders (λ names g at. at.located) groups old new is h ∙ same groups where
     same : (l : List (List Location)) → map (λ names. names) l ≡ l
     same [] = refl
     same (q ∷ l) = ap (λ (m : List (List Location)). q ∷ m) (same l)
 
-  all_in : (P : G → Type 0) (folders : Option (Map (Map (List ℕ)))) → ((names : List Location) (g : G) → IsGroupAt look state retries folders names g → P g) → (groups : List (List Location)) (old new : List G) → All P old → Opens folders groups old new → All P new
-  all_in P folders each [] old new all h = subst (λ (l : List G). All P l) (sym h) all
+  all_in : (P : Grouped (AnyStore L D K) → Type 0) (folders : Option (Map (Map (List ℕ)))) → ((names : List Location) (g : Grouped (AnyStore L D K)) → IsGroupAt look state retries folders names g → P g) → (groups : List (List Location)) (old new : List (Grouped (AnyStore L D K))) → All P old → OpensGroups look state retries folders groups old new → All P new
+  all_in P folders each [] old new all h = subst (λ (l : List (Grouped (AnyStore L D K))). All P l) (sym h) all
   all_in P folders each (names ∷ groups) old new all h = all_in P folders each groups (old ++ h.0 ∷ []) new (All-push P old h.0 all (each names h.0 h.1)) h.2
 
-  pub groups_fresh : (folders : Option (Map (Map (List ℕ)))) (groups : List (List Location)) (old new : List G) → old ≡ [] → Opens folders groups old new → All (IsFresh (source_faults look.faults state) retries) new
+  pub groups_fresh : (folders : Option (Map (Map (List ℕ)))) (groups : List (List Location)) (old new : List (Grouped (AnyStore L D K))) → old ≡ [] → OpensGroups look state retries folders groups old new → All (IsFresh (source_faults look.faults state) retries) new
   groups_fresh folders groups old new is h =
       let P = IsFresh (source_faults look.faults state) retries in
-      all_in P folders (λ names g at. at.fresh) groups old new (subst (λ (l : List G). All P l) (sym is) (All-nil P)) h
+      all_in P folders (λ names g at. at.fresh) groups old new (subst (λ (l : List (Grouped (AnyStore L D K))). All P l) (sym is) (All-nil P)) h
 
-  pub groups_unused : (folders : Option (Map (Map (List ℕ)))) (groups : List (List Location)) (old new : List G) → old ≡ [] → Opens folders groups old new → All (AreUnused state) new
+  pub groups_unused : (folders : Option (Map (Map (List ℕ)))) (groups : List (List Location)) (old new : List (Grouped (AnyStore L D K))) → old ≡ [] → OpensGroups look state retries folders groups old new → All (AreUnused state) new
   groups_unused folders groups old new is h =
-      let P : G → Type 0 = AreUnused state in
-      all_in P folders (λ names g at. at.unused) groups old new (subst (λ (l : List G). All P l) (sym is) (All-nil P)) h
+      let P : Grouped (AnyStore L D K) → Type 0 = AreUnused state in
+      all_in P folders (λ names g at. at.unused) groups old new (subst (λ (l : List (Grouped (AnyStore L D K))). All P l) (sym is) (All-nil P)) h
 
 -- the names of the stores of one group more are known
 pub groups_known : {S : Type 0} (of : S → List Location) (counts : Map ℕ) (old new : List S) (g : S) → new ≡ old ++ g ∷ [] → All (IsKnown counts) (stores_of (map of old)) → All (IsKnown counts) (of g) → All (IsKnown counts) (stores_of (map of new))

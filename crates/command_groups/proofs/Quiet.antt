@@ -31,9 +31,6 @@ none_failed failed r faults counted quiet = elim (cases_lt 0 failed) [
 ]
 
 module _ {L D K : Type 0} (files : L → Option (Map (List ℕ))) (place : L → List ℕ) (faults : L → ℕ) (state : D → DialState) (w v : Storage) where
-  abbrev G : Type 0
-  G = Grouped (AnyStore L D K)
-
   one_quiet : (failed r : ℕ) (xs : List (AnyStore L D K)) (f : Map (List ℕ)) → of_one (source_files files) xs ≡ Some f → All (IsGiven place faults state w v) xs → All (λ s. raised 0 (failed * (r + 1)) ≤ source_faults faults state s) xs
       → AllQuiet w.disk.folder_counts v.disk.folder_counts → Quiet 0 failed
   one_quiet failed r [] f told given counts quiet = absurd (cc)
@@ -45,7 +42,7 @@ module _ {L D K : Type 0} (files : L → Option (Map (List ℕ))) (place : L →
   one_quiet failed r (stores.Http x ∷ []) f told given counts quiet = absurd (cc)
   one_quiet failed r (a ∷ b ∷ xs) f told given counts quiet = absurd (cc)
 
-  quiet_each : (fs : List (Map (List ℕ))) (after : List G) → map (told_files files) after ≡ map Some fs → All (IsGroupGiven place faults state w v) after → AllQuiet w.disk.folder_counts v.disk.folder_counts → (k : ℕ) → Quiet 0 (slice_index (map (λ g. g.failed) after) k)
+  quiet_each : (fs : List (Map (List ℕ))) (after : List (Grouped (AnyStore L D K))) → map (told_files files) after ≡ map Some fs → All (IsGroupGiven place faults state w v) after → AllQuiet w.disk.folder_counts v.disk.folder_counts → (k : ℕ) → Quiet 0 (slice_index (map (λ g. g.failed) after) k)
   quiet_each fs [] told given quiet k = record { same = omega arith; below = omega arith }
   quiet_each [] (g ∷ after) told given quiet k = absurd (cc)
   quiet_each (f ∷ fs) (g ∷ after) told given quiet zero =
@@ -56,7 +53,7 @@ module _ {L D K : Type 0} (files : L → Option (Map (List ℕ))) (place : L →
       quiet_each fs after (cons_tail (told_files files g) (Some f) (map (told_files files) after) (map Some fs) told) (All-tail (IsGroupGiven place faults state w v) g after given) quiet k
 
   -- none has failed
-  pub groups_quiet : {X : Type 0} (names : List X) (fs : List (Map (List ℕ))) (before after : List G) → map (λ g. g.failed) before ≡ map (λ q. 0) names → map (told_files files) after ≡ map Some fs
+  pub groups_quiet : {X : Type 0} (names : List X) (fs : List (Map (List ℕ))) (before after : List (Grouped (AnyStore L D K))) → map (λ g. g.failed) before ≡ map (λ q. 0) names → map (told_files files) after ≡ map Some fs
       → All (IsGroupGiven place faults state w v) after → AllQuiet w.disk.folder_counts v.disk.folder_counts → EachQuiet (map (λ g. g.failed) before) (map (λ g. g.failed) after)
   groups_quiet names fs before after fresh told given quiet = λ k.
       subst (λ (m : ℕ). Quiet m (slice_index (map (λ g. g.failed) after) k)) (sym (ap (λ (l : List ℕ). slice_index l k) fresh ∙ zeros_at names k)) (quiet_each fs after told given quiet k)

@@ -22,15 +22,12 @@ use Rattle.store_group.specs.Groups.{Grouped, group_place, of_one, places_of, se
 -- ---- where they stand
 
 module _ {L D K : Type 0} (place : L → List ℕ) where
-  abbrev G : Type 0
-  G = Grouped (AnyStore L D K)
-
-  one_stands : (g h : G) → group_place (place_in place) g ≡ group_place (place_in place) h → locations_in place g ≡ locations_in place h
+  one_stands : (g h : Grouped (AnyStore L D K)) → group_place (place_in place) g ≡ group_place (place_in place) h → locations_in place g ≡ locations_in place h
   one_stands g h same =
       stand_still place h.stores g.stores (places_same (place_in place) g.stores h.stores (cons_tail g.retries h.retries (places_of (place_in place) g.stores) (places_of (place_in place) h.stores) same))
 
   -- groups whose places were kept stand where they stood
-  pub groups_stand_still : (old new : List G) → map (group_place (place_in place)) new ≡ map (group_place (place_in place)) old → map (locations_in place) new ≡ map (locations_in place) old
+  pub groups_stand_still : (old new : List (Grouped (AnyStore L D K))) → map (group_place (place_in place)) new ≡ map (group_place (place_in place)) old → map (locations_in place) new ≡ map (locations_in place) old
   groups_stand_still [] [] same = refl
   groups_stand_still [] (h ∷ new) same = absurd (cc)
   groups_stand_still (g ∷ old) [] same = absurd (cc)
@@ -41,15 +38,15 @@ module _ {L D K : Type 0} (place : L → List ℕ) where
       λ i. one i ∷ others i
 
   -- and their calls are made as often again
-  pub groups_try_still : (e : ℕ) (old new : List G) → map (group_place (place_in place)) new ≡ map (group_place (place_in place)) old → All (λ g. g.retries ≡ e) old → All (λ g. g.retries ≡ e) new
-  groups_try_still e old [] same tries = All-nil (λ (g : G). g.retries ≡ e)
+  pub groups_try_still : (e : ℕ) (old new : List (Grouped (AnyStore L D K))) → map (group_place (place_in place)) new ≡ map (group_place (place_in place)) old → All (λ g. g.retries ≡ e) old → All (λ g. g.retries ≡ e) new
+  groups_try_still e old [] same tries = All-nil (λ (g : Grouped (AnyStore L D K)). g.retries ≡ e)
   groups_try_still e [] (h ∷ new) same tries = absurd (cc)
   groups_try_still e (g ∷ old) (h ∷ new) same tries =
       let place_of = group_place (place_in place) in
       let one = cons_head (place_of h) (place_of g) (map place_of new) (map place_of old) same in
       let others = cons_tail (place_of h) (place_of g) (map place_of new) (map place_of old) same in
       let number : h.retries ≡ g.retries = cons_head h.retries g.retries (places_of (place_in place) h.stores) (places_of (place_in place) g.stores) one in
-      All-cons (λ (g : G). g.retries ≡ e) h new (number ∙ All-head (λ (g : G). g.retries ≡ e) g old tries) (groups_try_still e old new others (All-tail (λ (g : G). g.retries ≡ e) g old tries))
+      All-cons (λ (g : Grouped (AnyStore L D K)). g.retries ≡ e) h new (number ∙ All-head (λ (g : Grouped (AnyStore L D K)). g.retries ≡ e) g old tries) (groups_try_still e old new others (All-tail (λ (g : Grouped (AnyStore L D K)). g.retries ≡ e) g old tries))
 
 -- as many stores stand there
 pub many_stores : {L D K : Type 0} (place : L → List ℕ) (g h : Grouped (AnyStore L D K)) → locations_in place g ≡ locations_in place h → length g.stores ≡ length h.stores
@@ -67,11 +64,8 @@ sizes_stand place (g ∷ xs) (q ∷ groups) same =
 -- ---- what their folders hold
 
 module _ {L D K : Type 0} (place : L → List ℕ) (files : L → Option (Map (List ℕ))) (state : D → DialState) where
-  abbrev H : Type 0
-  H = Grouped (AnyStore L D K)
-
   -- the files of all folders are as they were, where the groups were only asked
-  pub folders_still : (P : Ask → Type 0) (old new : List H) → map (locations_in place) new ≡ map (locations_in place) old → map (told_files files) new ≡ map (told_files files) old
+  pub folders_still : (P : Ask → Type 0) (old new : List (Grouped (AnyStore L D K))) → map (locations_in place) new ≡ map (locations_in place) old → map (told_files files) new ≡ map (told_files files) old
       → AllZip (λ a b. Sends P (sent_of (source_sent state) (source_files files) a.stores) (sent_of (source_sent state) (source_files files) b.stores)) old new
       → map (files_in files) new ≡ map (files_in files) old
   folders_still P [] [] same told sends = refl
@@ -96,10 +90,7 @@ one_alike : {S T X : Type 0} (f : S → Option X) (h : T → Option X) (xs : Lis
 one_alike f h xs ys same = of_one_map f xs ∙ ap (of_one (λ o. o)) same ∙ sym (of_one_map h ys)
 
 module _ {L D K : Type 0} (files : L → Option (Map (List ℕ))) where
-  abbrev J : Type 0
-  J = Grouped (AnyStore L D K)
-
-  told_in : (m : Map (Map (List ℕ))) (xs : List J) (groups : List (List Location)) → map (files_in files) xs ≡ map (map (location_files m)) groups → map (told_files files) xs ≡ map (group_files m) groups
+  told_in : (m : Map (Map (List ℕ))) (xs : List (Grouped (AnyStore L D K))) (groups : List (List Location)) → map (files_in files) xs ≡ map (map (location_files m)) groups → map (told_files files) xs ≡ map (group_files m) groups
   told_in m [] [] same = refl
   told_in m [] (q ∷ groups) same = absurd (cc)
   told_in m (g ∷ xs) [] same = absurd (cc)
@@ -109,13 +100,13 @@ module _ {L D K : Type 0} (files : L → Option (Map (List ℕ))) where
       λ i. one i ∷ others i
 
   -- what was found of the folders, the groups tell
-  pub groups_tell : (folders : Option (Map (Map (List ℕ)))) (xs : List J) (groups : List (List Location)) → IfSome folders (λ m. map (files_in files) xs ≡ map (map (location_files m)) groups)
+  pub groups_tell : (folders : Option (Map (Map (List ℕ)))) (xs : List (Grouped (AnyStore L D K))) (groups : List (List Location)) → IfSome folders (λ m. map (files_in files) xs ≡ map (map (location_files m)) groups)
       → IfSome folders (λ m. map (told_files files) xs ≡ map (group_files m) groups)
   groups_tell None xs groups found = tt
   groups_tell (Some m) xs groups found = told_in m xs groups found
 
   -- it stands still
-  pub found_after : (folders : Option (Map (Map (List ℕ)))) (before after : List J) (groups : List (List Location)) → map (files_in files) after ≡ map (files_in files) before
+  pub found_after : (folders : Option (Map (Map (List ℕ)))) (before after : List (Grouped (AnyStore L D K))) (groups : List (List Location)) → map (files_in files) after ≡ map (files_in files) before
       → IfSome folders (λ m. map (files_in files) before ≡ map (map (location_files m)) groups) → IfSome folders (λ m. map (files_in files) after ≡ map (map (location_files m)) groups)
   found_after None before after groups kept found = tt
   found_after (Some m) before after groups kept found = kept ∙ found
@@ -126,7 +117,7 @@ module _ {L D K : Type 0} (files : L → Option (Map (List ℕ))) where
   one_holds (x ∷ []) = refl
   one_holds (x ∷ y ∷ xs) = refl
 
-  pub groups_hold : (xs : List J) (fs : List (Map (List ℕ))) → map (told_files files) xs ≡ map Some fs → map (λ g. of_one (chunks_in files) g.stores) xs ≡ map Some (map chunks fs)
+  pub groups_hold : (xs : List (Grouped (AnyStore L D K))) (fs : List (Map (List ℕ))) → map (told_files files) xs ≡ map Some fs → map (λ g. of_one (chunks_in files) g.stores) xs ≡ map Some (map chunks fs)
   groups_hold [] [] told = refl
   groups_hold [] (f ∷ fs) told = absurd (cc)
   groups_hold (g ∷ xs) [] told = absurd (cc)

@@ -52,6 +52,10 @@ counted_by a b f r n added counted = elim (cases_lt 0 r) [
   | inr none ↦ inl (omega (arith, added, counted, none))
 ]
 
+some_failed : (n : ℕ) → Rose 0 n → 1 ≤ n
+some_failed n (inl more) = omega (arith, more)
+some_failed n (inr full) = omega (arith, full)
+
 module _ {L D K : Type 0} (place : L → List ℕ) (faults : L → ℕ) (state : D → DialState) (w v : Storage) where
   -- a store that has failed so often, its words have
   pub rose_by : (n : ℕ) (s : AnyStore L D K) → IsGiven place faults state w v s → raised 0 n ≤ source_faults faults state s → RoseBy n w v (location_in place s)
@@ -67,10 +71,6 @@ module _ {L D K : Type 0} (place : L → List ℕ) (faults : L → ℕ) (state :
       let given_of = IsGiven place faults state w v in
       let counted_of : AnyStore L D K → Type 0 = λ s. raised 0 n ≤ source_faults faults state s in
       All-cons (RoseBy n w v) (location_in place x) (map (location_in place) xs) (rose_by n x (All-head given_of x xs given) (All-head counted_of x xs counted)) (each_rose n xs (All-tail given_of x xs given) (All-tail counted_of x xs counted))
-
-  some_failed : (n : ℕ) → Rose 0 n → 1 ≤ n
-  some_failed n (inl more) = omega (arith, more)
-  some_failed n (inr full) = omega (arith, full)
 
   -- a group has failed only where each of its stores has, e + 1 times
   pub group_rises : (e : ℕ) (g : Grouped (AnyStore L D K)) → g.retries ≡ e → IsGroupGiven place faults state w v g → Rose 0 g.failed → GroupRose e w v (locations_in place g)
@@ -132,13 +132,10 @@ module _ {S X : Type 0} (location : S → X) (T : S → Type 0) where
 
 -- the groups of a command stand so once they are given back
 module _ {L D K : Type 0} (files : L → Option (Map (List ℕ))) (place : L → List ℕ) (faults : L → ℕ) (state : D → DialState) (e : ℕ) (w v : Storage) where
-  abbrev G : Type 0
-  G = Grouped (AnyStore L D K)
+  abbrev pub Standing : Grouped (AnyStore L D K) → Type 0
+  Standing g = GroupStands (locations_in place) (λ (h : Grouped (AnyStore L D K)). said_of (said_in files state) h.stores) (λ (h : Grouped (AnyStore L D K)). h.failed) e w v g
 
-  abbrev pub Standing : G → Type 0
-  Standing = GroupStands (locations_in place) (λ g. said_of (said_in files state) g.stores) (λ g. g.failed) e w v
-
-  one_stands : (g : G) (q : List Location) → locations_in place g ≡ q → IfSome w.disk.folders (λ m. files_in files g ≡ map (location_files m) q) → g.retries ≡ e → IsGroupGiven place faults state w v g → Standing g
+  one_stands : (g : Grouped (AnyStore L D K)) (q : List Location) → locations_in place g ≡ q → IfSome w.disk.folders (λ m. files_in files g ≡ map (location_files m) q) → g.retries ≡ e → IsGroupGiven place faults state w v g → Standing g
   one_stands g q same held tries given =
       let stand = all_stand files place faults state w v g.stores q same held given.stores in
       record {
@@ -146,12 +143,12 @@ module _ {L D K : Type 0} (files : L → Option (Map (List ℕ))) (place : L →
         rises = group_rises place faults state w v e g tries given;
       }
 
-  pub all_groups_stand : (xs : List G) (groups : List (List Location)) → map (locations_in place) xs ≡ groups → IfSome w.disk.folders (λ m. map (files_in files) xs ≡ map (map (location_files m)) groups)
+  pub all_groups_stand : (xs : List (Grouped (AnyStore L D K))) (groups : List (List Location)) → map (locations_in place) xs ≡ groups → IfSome w.disk.folders (λ m. map (files_in files) xs ≡ map (map (location_files m)) groups)
       → All (λ g. g.retries ≡ e) xs → All (IsGroupGiven place faults state w v) xs → All Standing xs
   all_groups_stand [] names same held tries given = All-nil Standing
   all_groups_stand (g ∷ xs) [] same held tries given = absurd (cc)
   all_groups_stand (g ∷ xs) (q ∷ names) same held tries given =
-      let tries_of : G → Type 0 = λ g. g.retries ≡ e in
+      let tries_of : Grouped (AnyStore L D K) → Type 0 = λ g. g.retries ≡ e in
       let given_of = IsGroupGiven place faults state w v in
       All-cons Standing g xs
       (one_stands g q (cons_head (locations_in place g) q (map (locations_in place) xs) names same) (head w.disk.folders held) (All-head tries_of g xs tries) (All-head given_of g xs given))

@@ -31,9 +31,9 @@ abbrev pub told_files : {L D K : Type 0} → (L → Option (Map (List ℕ))) →
 told_files files g = of_one (source_files files) g.stores
 
 -- a group that was just made: its first store is active, none has failed, and a call that fails is made so often again
-pub record IsFresh {S : Type 0} (counted : S → ℕ) (retries : ℕ) (g : Grouped S) : Type 0 where
+pub record IsFresh {S : Type 0} (counted : S → ℕ) (again : ℕ) (g : Grouped S) : Type 0 where
   pub active : g.active ≡ 0
-  pub retries : g.retries ≡ retries
+  pub retries : g.retries ≡ again
   pub failed : g.failed ≡ 0
   pub unfailed : All (λ s. counted s ≡ 0) g.stores
 
