@@ -1,7 +1,6 @@
 -- How the servers of groups that were fresh were asked, once they are given back.
-use Rattle.std.proofs.Common.{◌≡◌, ◌∙◌, ◌+◌, ◌*◌, ◌/◌, ◌<◌, ◌≤◌, ℕ, suc, List, [], ◌∷◌, length, map, max, slice_index_or, Option, Some, None, IfSome, refl, sym, ap, subst, arith}
+use Rattle.std.proofs.Common.{◌≡◌, ◌∙◌, ◌+◌, ◌*◌, ◌<◌, ◌≤◌, ℕ, suc, List, [], ◌∷◌, length, map, max, slice_index_or, Option, Some, None, IfSome, refl, sym, ap, subst, arith}
 use Rattle.std.proofs.Math.Nat.{div-eq_of_lt}
-use Rattle.std.proofs.lemmas.List.{append-nil, length-map}
 use Rattle.std.proofs.lemmas.List.Elements.{All-head, All-tail}
 use Rattle.std.specs.List.{All, AllByRecursion, AllZip, fold}
 use Rattle.chunk_store.specs.Asks.{Ask, Sends}
@@ -113,7 +112,7 @@ module _ {L D K : Type 0} (place : L → List ℕ) (state : D → DialState) whe
 
     -- it was unused before, and stands where it stood, with as many retries
     abbrev Lent : Grouped (AnyStore L D K) → (Grouped (AnyStore L D K)) → Type 0
-    Lent a b = AreUnused state a × (b.retries ≡ e) × (locations_in place b ≡ locations_in place a)
+    Lent a b = AreUnused state a × ((b.retries ≡ e) × (locations_in place b ≡ locations_in place a))
 
     lent : (xs ys : List (Grouped (AnyStore L D K))) → All (AreUnused state) xs → All (λ g. g.retries ≡ e) ys → map (locations_in place) ys ≡ map (locations_in place) xs → AllZip Lent xs ys
     lent xs ys unused tries stands =
@@ -155,12 +154,12 @@ module _ {L D K : Type 0} (place : L → List ℕ) (state : D → DialState) whe
     one_sent P (x ∷ []) (y ∷ []) old many unused sends = each_sent place state P (x ∷ []) (y ∷ []) (location_in place y ∷ []) old (fold (with_those state) old (y ∷ [])) unused (sends, tt) refl refl
     one_sent P (x ∷ a ∷ xs) (y ∷ b ∷ ys) old many unused sends =
         each_dialed place state (λ s ended. Unit {0}) (y ∷ b ∷ ys) old (fold (with_those state) old (y ∷ b ∷ ys)) refl (λ k d lt. any_dialed (slice_index_or (y ∷ b ∷ ys) k d)) where
-      any_dialed : (s : AnyStore L D K) → IsDialed state (λ s ended. Unit {0}) s
-      any_dialed (stores.Folder l) = tt
-      any_dialed (stores.Http r) = go (state r.dial).ended where
-        go : (o : Option (List Traffic)) → IfSome o (λ ended. Unit {0})
-        go None = tt
-        go (Some ended) = tt
+          any_dialed : (s : AnyStore L D K) → IsDialed state (λ s ended. Unit {0}) s
+          any_dialed (stores.Folder l) = tt
+          any_dialed (stores.Http r) = go (state r.dial).ended where
+            go : (o : Option (List Traffic)) → IfSome o (λ ended. Unit {0})
+            go None = tt
+            go (Some ended) = tt
 
     -- ---- groups that were unused, and given back after they were asked so
 
@@ -173,8 +172,8 @@ module _ {L D K : Type 0} (place : L → List ℕ) (state : D → DialState) whe
         let R : Grouped (AnyStore L D K) → (Grouped (AnyStore L D K)) → Type 0 = λ a b. Lent a b × (Few method.Get gets a b × (Few method.Head heads a b × Sent P a b)) in
         located_dialed A B ys groups old new located ended
         (groups_dialed A B R
-        (λ g h o r. (let many = sym (many_stores place h g r.0.2) in
-        one_asked (with_retries e gets) (with_retries e heads) P g.stores h.stores o many r.0.0 (group_few method.Get state e gets g h r.0.1 r.0.0 many r.1.0) (group_few method.Head state e heads g h r.0.1 r.0.0 many r.1.1.0) r.1.1.1)) xs ys old
+        (λ g h o r. (let many = sym (many_stores place h g r.0.1.1) in
+        one_asked (with_retries e gets) (with_retries e heads) P g.stores h.stores o many r.0.0 (group_few method.Get state e gets g h r.0.1.0 r.0.0 many r.1.0) (group_few method.Head state e heads g h r.0.1.0 r.0.0 many r.1.1.0) r.1.1.1)) xs ys old
         (both_zip Lent (λ a b. Few method.Get gets a b × (Few method.Head heads a b × Sent P a b)) xs ys (lent xs ys unused tries stands)
         (both_zip (Few method.Get gets) (λ a b. Few method.Head heads a b × Sent P a b) xs ys get (both_zip (Few method.Head heads) (Sent P) xs ys head sends))))
 
@@ -186,7 +185,7 @@ module _ {L D K : Type 0} (place : L → List ℕ) (state : D → DialState) whe
         let A = AsksFew method.Get (with_retries e gets) in
         located_dialed A A ys groups old new located ended
         (groups_dialed A A (λ a b. Lent a b × Few method.Get gets a b)
-        (λ g h o r. (let many = sym (many_stores place h g r.0.2) in one_got (with_retries e gets) g.stores h.stores o r.0.0 (group_few method.Get state e gets g h r.0.1 r.0.0 many r.1))) xs ys old
+        (λ g h o r. (let many = sym (many_stores place h g r.0.1.1) in one_got (with_retries e gets) g.stores h.stores o r.0.0 (group_few method.Get state e gets g h r.0.1.0 r.0.0 many r.1))) xs ys old
         (both_zip Lent (Few method.Get gets) xs ys (lent xs ys unused tries stands) get))
 
     -- and of what those of groups of one store were sent
@@ -195,7 +194,7 @@ module _ {L D K : Type 0} (place : L → List ℕ) (state : D → DialState) whe
     groups_sent P xs ys groups old new unused tries stands sends located ended =
         located_dialed (SendsFronts P) (λ s ended. Unit {0}) ys groups old new located ended
         (groups_dialed (SendsFronts P) (λ s ended. Unit {0}) (λ a b. Lent a b × Sent P a b)
-        (λ g h o r. (let many = sym (many_stores place h g r.0.2) in one_sent P g.stores h.stores o many r.0.0 r.1)) xs ys old
+        (λ g h o r. (let many = sym (many_stores place h g r.0.1.1) in one_sent P g.stores h.stores o many r.0.0 r.1)) xs ys old
         (both_zip Lent (Sent P) xs ys (lent xs ys unused tries stands) sends))
 
 -- no connection at all

@@ -1,5 +1,5 @@
 -- Groups of stores that are given back one after the other.
-use Rattle.std.proofs.Common.{◌≡◌, ◌∙◌, ◌++◌, ◌≤◌, ℕ, List, [], ◌∷◌, IsTrue, map, slice_index_or, refl, sym, ap, subst}
+use Rattle.std.proofs.Common.{◌≡◌, ◌∙◌, ◌++◌, ◌≤◌, ℕ, List, [], ◌∷◌, IsTrue, slice_index_or, sym, subst}
 use Rattle.std.proofs.lemmas.List.Elements.{All-push}
 use Rattle.std.specs.List.{All}
 use Rattle.std.specs.Map.{count_at}
@@ -7,7 +7,6 @@ use Rattle.command_groups.proofs.Flat.{folders_parts}
 use Rattle.command_groups.specs.Opened.{IsGroupGiven}
 use Rattle.command_steps.proofs.Consulted.{consults_twice}
 use Rattle.command_steps.proofs.Given.{given_earlier, given_longer}
-use Rattle.command_steps.specs.AnyStores.{IsGiven}
 use Rattle.command_steps.specs.Dials.{Dials}
 use Rattle.command_steps.specs.Sources.{Consults, ConsultsStores, Storage}
 use Rattle.command_steps.specs.Stores.{are_folders}

@@ -1,6 +1,6 @@
 -- What groups that were given back have said of a chunk that they refused, and under which numbers.
-use Rattle.std.proofs.Common.{◌≡◌, ◌∙◌, ◌⊎◌, ◌+◌, ◌<◌, ◌≤◌, ℕ, zero, suc, List, [], ◌∷◌, ◌++◌, length, map, take, slice_index, slice_index_or, Option, Some, None, Bool, refl, sym, ap, subst, inl, inr, arith}
-use Rattle.std.proofs.lemmas.List.{length-append, length-map}
+use Rattle.std.proofs.Common.{◌≡◌, ◌⊎◌, ◌+◌, ◌<◌, ◌≤◌, ℕ, zero, suc, List, [], ◌∷◌, ◌++◌, length, map, take, slice_index, slice_index_or, Option, Some, Bool, refl, sym, subst, arith}
+use Rattle.std.proofs.lemmas.List.{length-append}
 use Rattle.std.proofs.lemmas.List.Elements.{All-cons, All-head, All-nil, All-tail}
 use Rattle.std.specs.List.{All, zip}
 use Rattle.chunk_store.specs.Said.{KeepsOf, Said}
@@ -8,7 +8,7 @@ use Rattle.chunk_store.specs.declared.shows.Shows.{Shows}
 use Rattle.chunk_store.specs.declared.shows.Shows.TheVariants as shows
 use Rattle.command_groups.proofs.Standing.{GroupStands, each_as, either, failed, first_as, lacked}
 use Rattle.command_groups.specs.Groups.{first_store, group_files, stores_of}
-use Rattle.command_groups.specs.Lacking.{FailsFirstIn, GroupFailsFirst, GroupRose, GroupsLack, HaveLackedIn, group_said}
+use Rattle.command_groups.specs.Lacking.{GroupFailsFirst, GroupRose, GroupsLack, HaveLackedIn, group_said}
 use Rattle.command_groups.specs.Numbers.{IsNumbered, IsStoreOf}
 use Rattle.command_steps.proofs.Lacked.{lacks_still}
 use Rattle.command_steps.specs.Sources.{Storage, location_files}

@@ -3,14 +3,17 @@ use Rattle.std.proofs.Common.{◌≡◌, ◌∙◌, ◌++◌, ◌≤◌, ℕ, Li
 use Rattle.std.proofs.lemmas.List.{append-nil, append_assoc, map-append}
 use Rattle.std.proofs.lemmas.List.Elements.{All-append, All-cons, All-head, All-nil, All-push, All-tail}
 use Rattle.std.specs.List.{All}
-use Rattle.command_groups.proofs.Flat.{places_more}
+use Rattle.command_groups.proofs.Flat.{folders_back, folders_front, none_of_both, places_more}
 use Rattle.command_groups.specs.Groups.{stores_of}
-use Rattle.command_groups.specs.Opened.{AreUnused, IsFresh, IsGroupAt, OpensGroups, all_locations, files_in, locations_in}
+use Rattle.command_groups.specs.Opened.{AreUnused, IsFresh, IsGroupAt, OpensGroups, files_in, locations_in}
 use Rattle.command_outcome.specs.declared.outcome.Outcome.{Outcome}
+use Rattle.command_outcome.specs.declared.outcome.Outcome.TheVariants as ends
 use Rattle.command_steps.proofs.Consulted.{reads_none}
 use Rattle.command_steps.proofs.OpenedSources.{unreached_after}
+use Rattle.command_steps.proofs.Used.{uses_then, uses_twice, within_same}
 use Rattle.command_steps.specs.AnyStores.{IsKnown, source_faults}
-use Rattle.command_steps.specs.Sources.{FirstUnreached, IsThere, location_files}
+use Rattle.command_steps.specs.Sources.{FirstUnreached, IsThere, Unreached, location_files}
+use Rattle.command_steps.specs.Uses.{IsNoneOf, Uses, folders_among}
 use Rattle.command_steps.specs.declared.any_store.AnyStore.{AnyStore}
 use Rattle.command_words.specs.declared.command.Location.{Location}
 use Rattle.command_worlds.specs.Worlds.{Reads}
@@ -56,10 +59,10 @@ unreached_before d e [] rest o h = absurd h
 unreached_before d e (q ∷ front) rest o (inl h) = inl h
 unreached_before d e (q ∷ front) rest o (inr h) = inr (h.0, unreached_before d e front rest o h.1)
 
--- there was no memory
-pub unreached_memory : (d e : Disk) (names : List Location) (o : Outcome) → 1 ≤ length names → ((q : Location) → FirstUnreached d e (q ∷ []) o) → FirstUnreached d e names o
-unreached_memory d e [] o some none = absurd (omega (arith, some))
-unreached_memory d e (q ∷ names) o some none = unreached_before d e (q ∷ []) names o (none q)
+-- or there was no memory
+pub unreached_memory : (d e : Disk) (front rest : List Location) (o : Outcome) → 1 ≤ length front → o ≡ ends.Memory → FirstUnreached d e (front ++ rest) o
+unreached_memory d e [] rest o some none = absurd (omega (arith, some))
+unreached_memory d e (q ∷ front) rest o some none = inl (subst (Unreached d e q) (sym none) tt)
 
 pub there_both : (o : Option (Map (Map (List ℕ)))) (front rest : List Location) → IfSome o (λ m. All (IsThere m) front) → IfSome o (λ m. All (IsThere m) rest) → IfSome o (λ m. All (IsThere m) (front ++ rest))
 there_both None front rest a b = tt
@@ -124,3 +127,19 @@ module _ {L D K : Type 0} (look : LookWords L) (state : D → DialState) (retrie
 pub groups_known : {S : Type 0} (of : S → List Location) (counts : Map ℕ) (old new : List S) (g : S) → new ≡ old ++ g ∷ [] → All (IsKnown counts) (stores_of (map of old)) → All (IsKnown counts) (of g) → All (IsKnown counts) (stores_of (map of new))
 groups_known of counts old new g is known one =
     subst (λ (l : List Location). All (IsKnown counts) l) (sym (places_more of new old g is)) (All-append (IsKnown counts) (stores_of (map of old)) (of g) known one)
+
+-- ---- which folders were used
+
+-- those of this group, once more by its stores' names, and those of the rest
+pub used_more : (names first rest stores : List Location) (d b c e : Disk) → names ≡ first ++ rest → stores ≡ first → Uses [] (folders_among first) d b → Uses [] (folders_among stores) b c → Uses [] (folders_among rest) c e → Uses [] (folders_among names) d e
+used_more names first rest stores d b c e is at u v w =
+    let same : Uses [] (folders_among first) b c = subst (λ (l : List Location). Uses [] (folders_among l) b c) at v in
+    uses_then [] (folders_among first) [] (folders_among rest) [] (folders_among names) d c e (within_same []) (folders_front names first rest is) (within_same []) (folders_back names first rest is) (uses_twice [] (folders_among first) d b c u same) w
+
+-- each folder of the new groups is one of the old, or one of these
+pub among_more : {S : Type 0} (of : S → List Location) (old mid new : List S) (g : S) (first rest names : List Location) → names ≡ first ++ rest → of g ≡ first → mid ≡ old ++ g ∷ []
+    → ((q : List ℕ) → IsNoneOf q (folders_among (stores_of (map of mid))) → IsNoneOf q (folders_among rest) → IsNoneOf q (folders_among (stores_of (map of new))))
+    → (q : List ℕ) → IsNoneOf q (folders_among (stores_of (map of old))) → IsNoneOf q (folders_among names) → IsNoneOf q (folders_among (stores_of (map of new)))
+among_more of old mid new g first rest names is at same among q a b =
+    let one : IsNoneOf q (folders_among (of g)) = subst (λ (l : List Location). IsNoneOf q (folders_among l)) (sym at) (folders_front names first rest is q b) in
+    among q (none_of_both q (stores_of (map of mid)) (stores_of (map of old)) (of g) (places_more of mid old g same) a one) (folders_back names first rest is q b)

@@ -1,10 +1,10 @@
 -- Groups that were asked: where they stand, how often their calls are made again, and what their folders hold.
-use Rattle.std.proofs.Common.{◌≡◌, ◌∙◌, ℕ, List, [], ◌∷◌, length, map, Option, Some, None, IfSome, refl, sym, ap, subst}
+use Rattle.std.proofs.Common.{◌≡◌, ◌∙◌, ℕ, List, [], ◌∷◌, length, map, Option, Some, None, IfSome, refl, sym, ap}
 use Rattle.std.proofs.lemmas.List.{length-map}
 use Rattle.std.proofs.lemmas.List.Elements.{All-cons, All-head, All-nil, All-tail}
 use Rattle.std.specs.List.{All, AllZip}
 use Rattle.std.specs.Option.{option_map}
-use Rattle.chunk_store.specs.Asks.{Ask, Sends, Sent}
+use Rattle.chunk_store.specs.Asks.{Ask, Sends}
 use Rattle.chunk_store.specs.Folders.{chunks}
 use Rattle.command_groups.proofs.Decoded.{group_files_same, places_same}
 use Rattle.command_groups.specs.Groups.{group_files}

@@ -1,17 +1,16 @@
 -- What groups that were given back have said and counted, as the words that name them.
-use Rattle.std.proofs.Common.{◌≡◌, ◌∙◌, ◌⊎◌, ◌+◌, ◌*◌, ◌<◌, ◌≤◌, ℕ, zero, suc, List, [], ◌∷◌, length, map, Option, Some, None, IfSome, refl, sym, ap, subst, inl, inr, arith}
+use Rattle.std.proofs.Common.{◌≡◌, ◌⊎◌, ◌+◌, ◌*◌, ◌<◌, ◌≤◌, ℕ, zero, suc, List, [], ◌∷◌, length, map, Option, Some, None, IfSome, subst, inl, inr, arith}
 use Rattle.std.proofs.Math.Nat.{mul-le-mul_right}
 use Rattle.std.proofs.lemmas.Bool.{cases_lt}
 use Rattle.std.proofs.lemmas.List.Elements.{All-cons, All-from_recursion, All-head, All-nil, All-tail}
 use Rattle.std.specs.List.{All, zip}
-use Rattle.std.specs.Map.{count_at}
 use Rattle.chunk_store.specs.Said.{KeepsOf, Said}
-use Rattle.command_groups.specs.Lacking.{GroupFailsFirst, GroupRose, RoseBy, group_said}
+use Rattle.command_groups.specs.Lacking.{GroupRose, RoseBy, group_said}
 use Rattle.command_groups.specs.Opened.{IsGroupGiven, files_in, locations_in}
 use Rattle.command_steps.proofs.Dialed.{any_among}
 use Rattle.command_steps.proofs.Given.{Stands, all_stand}
 use Rattle.command_steps.proofs.Numbers.{rose_later}
-use Rattle.command_steps.specs.AnyStores.{IsGiven, location_in, said_in, source_faults, source_files}
+use Rattle.command_steps.specs.AnyStores.{IsGiven, location_in, said_in, source_faults}
 use Rattle.command_steps.specs.Dials.{since}
 use Rattle.command_steps.specs.Sources.{Storage, location_files, said_at}
 use Rattle.command_steps.specs.declared.any_store.AnyStore.{AnyStore}
@@ -23,7 +22,7 @@ use Rattle.dsy_base.specs.Maps.{Map}
 use Rattle.http_read.specs.Refusals.{IsUnacceptable}
 use Rattle.store_chain.proofs.Pairs.{cons_head, cons_tail}
 use Rattle.store_chain.specs.Lists.{FirstAt}
-use Rattle.store_group.specs.Groups.{CountsFailures, Grouped, SomeStore, said_of}
+use Rattle.store_group.specs.Groups.{Grouped, SomeStore, said_of}
 
 -- what some store is like, the words of some store are like
 some_at : {S X : Type 0} (location : S → X) (T P : S → Type 0) (Q : X → Type 0) → ((s : S) → T s → P s → Q (location s)) → (xs : List S) → All T xs → SomeStore P xs → SomeStore Q (map location xs)

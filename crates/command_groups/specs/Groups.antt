@@ -1,5 +1,5 @@
 -- What words name as groups of stores. The stores of a group are meant to hold the same chunks.
-use Rattle.std.specs.Prelude.{◌≡◌, ◌++◌, ℕ, ◌≤◌, List, [], ◌∷◌, length, take, Option}
+use Rattle.std.specs.Prelude.{◌++◌, ℕ, ◌≤◌, List, [], ◌∷◌, length, take, Option}
 use Rattle.std.specs.List.{All}
 use Rattle.command_steps.specs.Sources.{location_files}
 use Rattle.command_words.specs.declared.command.Location.{Location}

@@ -45,6 +45,29 @@ fn open<F: Files, D: Dial>(
     Ok(Group::new(stores, retries))
 }
 
+// Gives the stores of one group back.
+fn close<F: Files, D: Dial>(files: &mut F, dial: &mut D, group: Group<AnyStore<F::Look, D>>)
+    requires known { All (IsKnown (F.disk files.old).folder_counts) (locations_in F.Look.place group) }
+    ensures kept { ConsultsStores (locations_in F.Look.place group)
+        (storage (F.disk files.old) (D.state dial.old)) (storage (F.disk files.new) (D.state dial.new)) }
+    ensures ended { (D.state dial.new).ended ≡ with_group D.state (D.state dial.old).ended group }
+    ensures counts { (F.disk files.new).file_counts ≡ (F.disk files.old).file_counts }
+    ensures used { Uses [] (folders_among (locations_in F.Look.place group)) (F.disk files.old) (F.disk files.new) }
+    ensures given { IsGroupGiven F.Look.place F.Look.faults D.state
+        (storage (F.disk files.old) (D.state dial.old)) (storage (F.disk files.new) (D.state dial.new)) group }
+{
+    close_sources(files, dial, group.into_stores())
+}
+
+// Lets one group go that was never asked.
+fn drop_unasked<F: Files, D: Dial>(files: &mut F, group: Group<AnyStore<F::Look, D>>)
+    requires known { All (IsKnown (F.disk files.old).folder_counts) (locations_in F.Look.place group) }
+    ensures kept { Reads (F.disk files.old) (F.disk files.new) }
+    ensures used { Uses [] (folders_among (locations_in F.Look.place group)) (F.disk files.old) (F.disk files.new) }
+{
+    drop_sources(files, group.into_stores())
+}
+
 // Appends the group, or lets it go.
 fn keep<F: Files, D: Dial>(
     files: &mut F,
@@ -61,7 +84,7 @@ fn keep<F: Files, D: Dial>(
     match groups.push(group) {
         Ok(()) => Ok(()),
         Err(full) => {
-            drop_sources(files, full.value.into_stores());
+            drop_unasked(files, full.value);
             Err(Outcome::Memory)
         }
     }
@@ -148,7 +171,7 @@ pub fn close_groups<F: Files, D: Dial>(
     match groups.pop() {
         Some(group) => {
             close_groups(files, dial, groups);
-            close_sources(files, dial, group.into_stores())
+            close(files, dial, group)
         }
         None => (),
     }
@@ -163,7 +186,7 @@ pub fn drop_groups<F: Files, D: Dial>(files: &mut F, mut groups: Vec<Group<AnySt
 {
     match groups.pop() {
         Some(group) => {
-            drop_sources(files, group.into_stores());
+            drop_unasked(files, group);
             drop_groups(files, groups)
         }
         None => (),
