@@ -1,13 +1,13 @@
 -- Groups that were asked: where they stand, how often their calls are made again, and what their folders hold.
-use Rattle.std.proofs.Common.{◌≡◌, ◌∙◌, ℕ, List, [], ◌∷◌, length, map, Option, Some, None, IfSome, refl, sym, ap}
-use Rattle.std.proofs.lemmas.List.{length-map}
+use Rattle.std.proofs.Common.{◌≡◌, ◌∙◌, ◌++◌, ◌+◌, ◌≤◌, ℕ, List, [], ◌∷◌, length, map, Option, Some, None, IfSome, refl, sym, ap, arith}
+use Rattle.std.proofs.lemmas.List.{length-append, length-map}
 use Rattle.std.proofs.lemmas.List.Elements.{All-cons, All-head, All-nil, All-tail}
 use Rattle.std.specs.List.{All, AllZip}
 use Rattle.std.specs.Option.{option_map}
 use Rattle.chunk_store.specs.Asks.{Ask, Sends}
 use Rattle.chunk_store.specs.Folders.{chunks}
 use Rattle.command_groups.proofs.Decoded.{group_files_same, places_same}
-use Rattle.command_groups.specs.Groups.{group_files}
+use Rattle.command_groups.specs.Groups.{AreGroups, group_files, stores_of}
 use Rattle.command_groups.specs.Opened.{IsFresh, files_in, locations_in, told_files}
 use Rattle.command_steps.proofs.Given.{stand_still}
 use Rattle.command_steps.specs.AnyStores.{chunks_in, location_in, place_in, source_files, source_sent}
@@ -140,3 +140,20 @@ fresh_counts counted e (g ∷ xs) (q ∷ names) many fresh =
     let one = (All-head (IsFresh counted e) g xs fresh).failed in
     let others = fresh_counts counted e xs names (cc) (All-tail (IsFresh counted e) g xs fresh) in
     λ i. one i ∷ others i
+
+-- ---- how many they are
+
+few_groups : (groups : List (List Location)) → All (λ g. 1 ≤ length g) groups → length groups ≤ length (stores_of groups)
+few_groups [] each = omega arith
+few_groups (g ∷ groups) each =
+    let one = All-head (λ (g : List Location). 1 ≤ length g) g groups each in
+    let rest = few_groups groups (All-tail (λ (g : List Location). 1 ≤ length g) g groups each) in
+    let both : length (g ++ stores_of groups) ≡ length g + length (stores_of groups) = length-append g (stores_of groups) in
+    omega (arith, one, rest, both)
+
+-- as many groups were opened as are named
+pub groups_many : {S : Type 0} (locations : S → List Location) (groups : List (List Location)) (retries : ℕ) (items : List S) → map locations items ≡ groups → AreGroups groups retries → (1 ≤ length items) × (length items ≤ 16)
+groups_many locations groups retries items same are =
+    let many : length items ≡ length groups = sym (length-map items locations) ∙ ap length same in
+    let few = few_groups groups are.each in
+    (omega (arith, many, are.some), omega (arith, many, few, are.few))
