@@ -1,6 +1,6 @@
 -- What holds for an assembly with kits, of which the first are known.
-use Rattle.std.proofs.Common.{◌≡◌, ◌∙◌, ◌++◌, ◌+◌, ℕ, suc, ◌<◌, ◌≤◌, All, List, [], ◌∷◌, length, map, Bool, Option, Some, None, Result, sym, ap, subst, arith}
-use Rattle.std.proofs.lemmas.List.{length-append, length-map}
+use Rattle.std.proofs.Common.{◌≡◌, ◌∙◌, ℕ, ◌<◌, List, length, map, Bool, Option, Some, None, Result, sym, ap, subst, arith}
+use Rattle.std.proofs.lemmas.List.{length-map}
 use Rattle.std.specs.List.{AllZip}
 use Rattle.assembler.specs.Obtainable.{OnlyObtainable}
 use Rattle.assembler.specs.OneKit.{lent}
@@ -9,9 +9,7 @@ use Rattle.cache_store.specs.Shelves.{Shelf}
 use Rattle.caibx_codec.specs.Listing.{Listing, count_of}
 use Rattle.chunk_sources.specs.Wants.{Task}
 use Rattle.chunk_sources.specs.declared.kit.Kit.{Kit}
-use Rattle.command_groups.specs.Groups.{AreGroups, stores_of}
 use Rattle.command_steps.specs.Seeds.{IsViewed, image_name}
-use Rattle.command_words.specs.declared.command.Location.{Location}
 use Rattle.dsy_base.specs.Bytes.{Held}
 use Rattle.dsy_base.specs.Disk.{Disk}
 use Rattle.chunk_store.specs.declared.store.Store.{Ghosts as StoreWords}
@@ -33,21 +31,6 @@ by_first {S} {V} store view t never cache_never o p a b e u f xs ms ys ns r shel
     subst (λ (c : Option Shelf). IsAssembledBy store view t never cache_never o p (lent a ms c) (lent b ns f) r) shelf
     (subst (λ (l : List (Kit S V)). IsAssembledBy store view t never cache_never o p (lent a l e) (lent b ns f) r) old
     (subst (λ (l : List (Kit S V)). IsAssembledBy store view t never cache_never o p (lent a xs e) (lent b l f) r) new made))
-
--- as many words as groups: no more than there are stores
-few_groups : (groups : List (List Location)) → All (λ (g : List Location). 1 ≤ length g) groups → length groups ≤ length (stores_of groups)
-few_groups [] each = omega arith
-few_groups (g ∷ groups) each =
-    let first = each 0 g (omega arith) in
-    let rest = few_groups groups (λ k d lt. each (suc k) d (omega (arith, lt))) in
-    let both : length (g ++ stores_of groups) ≡ length g + length (stores_of groups) = length-append g (stores_of groups) in
-    omega (arith, first, rest, both)
-
-pub many_groups : {S : Type 0} (location : S → List Location) (xs : List S) (groups : List (List Location)) (retries : ℕ) → map location xs ≡ groups → AreGroups groups retries → (1 ≤ length xs) × (length xs ≤ 16)
-many_groups location xs groups retries is are =
-    let many : length groups ≡ length xs = sym (ap length is) ∙ length-map xs location in
-    let few = few_groups groups are.each in
-    (omega (arith, many, are.some), omega (arith, many, few, are.few))
 
 -- what holds of the entries that can be had over some bytes
 pub only_told : (l : Listing) (P Q : List ℕ → ℕ → Type 0) (a b : ℕ) (r : Result Report ExtractFault) (o t : Option (List ℕ)) → ((y : List ℕ) (i : ℕ) → i < count_of l → P y i → Q y i)

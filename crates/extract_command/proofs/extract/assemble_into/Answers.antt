@@ -15,7 +15,7 @@ use Rattle.command_steps.proofs.Given.{all_later}
 use Rattle.command_steps.proofs.Numbers.{counted_known, rose_later, rose_longer}
 use Rattle.command_steps.proofs.SeedsOpened.{all_known_later}
 use Rattle.command_steps.proofs.SeedsUsed.{viewed_names}
-use Rattle.command_groups.proofs.Stand.{sizes_stand}
+use Rattle.command_groups.proofs.Stand.{groups_many, sizes_stand}
 use Rattle.command_groups.proofs.Words.{group_words}
 use Rattle.command_groups.specs.Groups.{stores_of}
 use Rattle.command_groups.specs.Numbers.{answer_of_stores}
@@ -32,7 +32,7 @@ use Rattle.dsy_base.specs.Disk.{Disk, GivesFile}
 use Rattle.dsy_base.specs.Links.{DialState}
 use Rattle.dsy_base.specs.Maps.{Map, at_name}
 use Rattle.extract_command.proofs.Between.{asked_nothing, back_dialed, back_reads, back_writes, fills, stopped, took_writes, unfilled, untaken}
-use Rattle.extract_command.proofs.First.{as_many, by_first, many_groups}
+use Rattle.extract_command.proofs.First.{as_many, by_first}
 use Rattle.extract_command.proofs.LentKits.{LooksTell, all_give_later, give_later, opened_kits, opened_names}
 use Rattle.extract_command.proofs.Run.{IsRun, run_asks, run_assembled}
 use Rattle.extract_command.proofs.Tasks.{task}
@@ -122,7 +122,7 @@ let_go-requires-in-Err g c =
     }
 
 pub into_kits-kits-requires-clause-size : goal.into_kits-kits-requires-clause-size
-into_kits-kits-requires-clause-size g c = many_groups (locations_in g.F.Look.Look.place) c.args.held.stores.items c.args.planned.now.stores.groups c.args.planned.now.stores.retries c.requires.located c.requires.groups
+into_kits-kits-requires-clause-size g c = groups_many (locations_in g.F.Look.Look.place) c.args.planned.now.stores.groups c.args.planned.now.stores.retries c.args.held.stores.items c.requires.located c.requires.groups
 
 pub into_kits-kits-requires-clause-room : goal.into_kits-kits-requires-clause-room
 into_kits-kits-requires-clause-room g c = omega (arith, c.open_kits.ensures.room)

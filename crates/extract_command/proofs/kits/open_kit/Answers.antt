@@ -2,6 +2,7 @@ use Rattle.std.proofs.Common.{◌≡◌, ◌∙◌, ℕ, ◌≤◌, All, length,
 use Rattle.std.specs.List.{AllZip}
 use Rattle.command_steps.proofs.Consulted.{reads_none, reads_twice}
 use Rattle.command_steps.proofs.Given.{all_later}
+use Rattle.command_groups.proofs.Stand.{groups_many}
 use Rattle.command_groups.specs.Groups.{stores_of}
 use Rattle.command_groups.specs.Opened.{AreUnused, IsFresh, files_in, locations_in}
 use Rattle.command_steps.specs.AnyStores.{IsKnown, source_faults}
@@ -16,6 +17,11 @@ use Rattle.extract_plan.specs.Seeds.{faults_in, seed_held}
 
 pub open_groups-requires : goal.open_groups-requires
 open_groups-requires g c = record { each = rw c.as_slice-groups.ensures c.requires.size.each }
+
+pub with_kind-requires : goal.with_kind-requires
+with_kind-requires g c =
+    let opened = rw c.as_slice-groups.ensures at c.in-Ok.ensures.located in
+    record { size = groups_many (locations_in g.F.Look.Look.place) c.args.stores.now.groups c.args.stores.now.retries c.in-Ok.stores.items opened c.requires.size }
 
 pub returns-in-Ok-open_seeds-clause-some : goal.returns-in-Ok-open_seeds-clause-some
 returns-in-Ok-open_seeds-clause-some g c =
