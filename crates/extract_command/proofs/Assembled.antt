@@ -275,7 +275,7 @@ module _ (w v : Storage) (stores : Stores) (cache : Option (List ℕ)) (out : In
         let c = chunk_of (kind_of l) id (size_of l k) in
         let lt = first_inside (λ g. (group_said w v g).denied c.id.0) (λ g. HasShown c y (group_said w v g)) (λ g. Lacks c (group_said w v g)) s stores.groups h.0 in
         let at = inside s lt in
-        h.1 (refused.Damaged (first_store stores.groups s + slice_index active s) y) (first_store stores.groups s + slice_index active s, refl, omega arith, omega (arith, at))
+        h.1 (refused.Damaged (first_store stores.groups s + slice_index active s) y) (first_store stores.groups s + slice_index active s, refl, (omega arith, omega (arith, at)))
 
     pub assembled : (r : Result Report ExtractFault) → AllFacts r → IfErr r (TargetAs (FileRose d e out.name)) → IfErr r (StoreAs (λ s. StopsFailed w v stores l (first_store stores.groups s)))
         → Assembled w v stores cache out l x (answer_of_stores stores.groups active (answer_of_assembly r))
