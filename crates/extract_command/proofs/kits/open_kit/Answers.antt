@@ -1,4 +1,4 @@
-use Rattle.std.proofs.Common.{◌≡◌, ◌∙◌, ℕ, ◌≤◌, All, length, IfSome, List, ap, map, subst, sym}
+use Rattle.std.proofs.Common.{◌≡◌, ◌∙◌, ℕ, arith, All, IfSome, List, ap, map, subst, sym}
 use Rattle.std.specs.List.{AllZip}
 use Rattle.command_steps.proofs.Consulted.{reads_none, reads_twice}
 use Rattle.command_steps.proofs.Given.{all_later}
@@ -21,7 +21,8 @@ open_groups-requires g c = record { each = rw c.as_slice-groups.ensures c.requir
 pub with_kind-requires : goal.with_kind-requires
 with_kind-requires g c =
     let opened = rw c.as_slice-groups.ensures at c.in-Ok.ensures.located in
-    record { size = groups_many (locations_in g.F.Look.Look.place) c.args.stores.now.groups c.args.stores.now.retries c.in-Ok.stores.items opened c.requires.size }
+    let few = groups_many (locations_in g.F.Look.Look.place) c.args.stores.now.groups c.args.stores.now.retries c.in-Ok.stores.items opened c.requires.size in
+    record { size = (omega (arith, c.in-Ok.stores.ok.0, few.0), omega (arith, c.in-Ok.stores.ok.0, few.1)) }
 
 pub returns-in-Ok-open_seeds-clause-some : goal.returns-in-Ok-open_seeds-clause-some
 returns-in-Ok-open_seeds-clause-some g c =
