@@ -498,6 +498,7 @@ numbered-answer-requires g c =
     }
 
 pub returns-clause-assembled : goal.returns-clause-assembled
+unfolding run
 returns-clause-assembled g c = λ p ls plan is.
     let here = (goal.at.returns-clause-assembled g c).After-of_kits-held in
     let at = g.F.Files.disk in
