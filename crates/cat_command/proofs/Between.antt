@@ -13,10 +13,10 @@ use Rattle.chunk_store.specs.declared.id.DigestKind.{DigestKind}
 use Rattle.chunk_store.specs.declared.store.Store.{Ghosts as StoreWords}
 use Rattle.command_outcome.specs.declared.outcome.Outcome.{Outcome}
 use Rattle.command_outcome.specs.declared.outcome.Outcome.TheVariants as ends
-use Rattle.command_groups.proofs.Lacked.{damaged_numbered, fault_numbered, groups_lack, lacks_numbered, missing_numbered}
+use Rattle.command_groups.proofs.Lacked.{damaged_is, groups_lack, lacks_numbered}
 use Rattle.command_groups.proofs.Standing.{GroupStands}
 use Rattle.command_groups.specs.Groups.{first_store, group_files}
-use Rattle.command_groups.specs.Lacking.{GroupsLack, HaveLackedIn, group_said}
+use Rattle.command_groups.specs.Lacking.{GroupsLack, group_said}
 use Rattle.command_groups.specs.Numbers.{IsNumbered, answer_of_stores}
 use Rattle.command_steps.specs.Sources.{storage_of}
 use Rattle.command_words.specs.declared.command.Location.{Location}
@@ -97,15 +97,14 @@ module _ {S : Type 0} (store : StoreWords S) (locations : S → List Location) (
   as_many m fs told = length-map fs chunks ∙ sym (length-map fs (λ f. Some f)) ∙ ap length (sym told) ∙ length-map groups (group_files m)
 
   -- and by those of stores
-  puts_before : (k : ℕ) (id : ChunkId) (by_group r : Refused) → PutsUntil store l at n c d w.out v.out k id by_group → IsNumbered groups by_group r → HaveLackedIn retries (chunk_at (kind_of l) l k) (storage_of w) (storage_of v) groups r
-      → PutsBefore groups retries l at n w v k id r
-  puts_before k id by_group r h is said =
+  puts_before : (k : ℕ) (id : ChunkId) (by_group r : Refused) → PutsUntil store l at n c d w.out v.out k id by_group → IsNumbered groups by_group r → PutsBefore groups retries l at n w v k id r
+  puts_before k id by_group r h is =
       let L : List (Map (List ℕ)) → DigestKind → Type 0 = λ fs x. LacksAll (chunk_at x l k) (map chunks fs) by_group in
       record {
         covered = h.covered;
         id_is = h.id_is;
         puts = puts_first (bytes_before l at k) h.puts;
-        said = said;
+        said = (by_group, is, lack k id by_group h);
         lacks = where_told (λ fs. LacksAll (chunk_at (kind_of l) l k) (map chunks fs) r)
             (λ m fs told holds. lacks_numbered m groups fs told (chunk_at (kind_of l) l k) (map chunks fs) (as_many m fs told) by_group r is (subst (L fs) kind (h.lacks (map chunks fs) holds)));
       }
@@ -113,15 +112,11 @@ module _ {S : Type 0} (store : StoreWords S) (locations : S → List Location) (
   module _ (active : List ℕ) (inside : (k : ℕ) → k < length groups → slice_index active k < length (slice_index_or groups k [])) where
     pub ends_between : (r : Result Unit Outcome) → EndsGiving store l at n c d w.out v.out r → EndsRange groups retries l at n w v (answer_of_stores groups active r)
     ends_between (Ok u) h = puts_first n h
-    ends_between (Err (ends.Missing k id)) h =
-        let said = missing_numbered retries (chunk_at (kind_of l) l k) (storage_of w) (storage_of v) groups (lack k id refused.Missing h) in
-        puts_before k id refused.Missing refused.Missing h said.1 said
+    ends_between (Err (ends.Missing k id)) h = puts_before k id refused.Missing refused.Missing h refl
     ends_between (Err (ends.Damaged k id s x)) h =
-        let said = damaged_numbered retries (chunk_at (kind_of l) l k) (storage_of w) (storage_of v) groups active inside s x (lack k id (refused.Damaged s x) h) in
-        puts_before k id (refused.Damaged s x) (refused.Damaged (first_store groups s + slice_index active s) x) h said.1 said
-    ends_between (Err (ends.StoreFault s)) h =
-        let said = fault_numbered retries (chunk_at (kind_of l) l h.0) (storage_of w) (storage_of v) groups s (lack h.0 h.1 (refused.StoreFault s) h.2) in
-        (h.0, h.1, puts_before h.0 h.1 (refused.StoreFault s) (refused.StoreFault (first_store groups s)) h.2 said.1 said)
+        puts_before k id (refused.Damaged s x) (refused.Damaged (first_store groups s + slice_index active s) x) h
+        (damaged_is retries (chunk_at (kind_of l) l k) (storage_of w) (storage_of v) groups active inside s x (lack k id (refused.Damaged s x) h))
+    ends_between (Err (ends.StoreFault s)) h = (h.0, h.1, puts_before h.0 h.1 (refused.StoreFault s) (refused.StoreFault (first_store groups s)) h.2 refl)
     ends_between (Err ends.OutFault) h = (h.0, (h.1.0, puts_first h.1.0 h.1.1))
     ends_between (Err ends.Memory) h = ((h.0.0, puts_first h.0.0 h.0.1), h.1)
     ends_between (Err other) h = absurd h

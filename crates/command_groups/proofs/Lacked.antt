@@ -66,11 +66,15 @@ module _ (e : ℕ) (c : Query) (w v : Storage) (groups : List (List Location)) w
   missing_numbered h = (refused.Missing, refl, h)
 
   -- the active store of the group is one of its stores
+  pub damaged_is : (active : List ℕ) → ((k : ℕ) → k < length groups → slice_index active k < length (slice_index_or groups k [])) → (k : ℕ) (x : Shows) → GroupsLack e c w v groups (refused.Damaged k x)
+      → IsNumbered groups (refused.Damaged k x) (refused.Damaged (first_store groups k + slice_index active k) x)
+  damaged_is active inside k x h =
+      let at = inside k (first_inside (λ g. (group_said w v g).denied c.id.0) (λ g. HasShown c x (group_said w v g)) (λ g. Lacks c (group_said w v g)) k groups h) in
+      (first_store groups k + slice_index active k, refl, (omega arith, omega (arith, at)))
+
   pub damaged_numbered : (active : List ℕ) → ((k : ℕ) → k < length groups → slice_index active k < length (slice_index_or groups k [])) → (k : ℕ) (x : Shows) → GroupsLack e c w v groups (refused.Damaged k x)
       → HaveLackedIn e c w v groups (refused.Damaged (first_store groups k + slice_index active k) x)
-  damaged_numbered active inside k x h =
-      let at = inside k (first_inside (λ g. (group_said w v g).denied c.id.0) (λ g. HasShown c x (group_said w v g)) (λ g. Lacks c (group_said w v g)) k groups h) in
-      (refused.Damaged k x, (first_store groups k + slice_index active k, refl, (omega arith, omega (arith, at))), h)
+  damaged_numbered active inside k x h = (refused.Damaged k x, damaged_is active inside k x h, h)
 
   pub fault_numbered : (k : ℕ) → GroupsLack e c w v groups (refused.StoreFault k) → HaveLackedIn e c w v groups (refused.StoreFault (first_store groups k))
   fault_numbered k h = (refused.StoreFault k, refl, h)

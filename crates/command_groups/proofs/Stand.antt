@@ -1,5 +1,5 @@
 -- Groups that were asked: where they stand, how often their calls are made again, and what their folders hold.
-use Rattle.std.proofs.Common.{◌≡◌, ◌∙◌, ◌++◌, ◌+◌, ◌≤◌, ℕ, List, [], ◌∷◌, length, map, Option, Some, None, IfSome, refl, sym, ap, arith}
+use Rattle.std.proofs.Common.{◌≡◌, ◌∙◌, ◌++◌, ◌+◌, ◌<◌, ◌≤◌, ℕ, zero, suc, List, [], ◌∷◌, length, map, slice_index, slice_index_or, Option, Some, None, IfSome, refl, sym, ap, arith}
 use Rattle.std.proofs.lemmas.List.{length-append, length-map}
 use Rattle.std.proofs.lemmas.List.Elements.{All-cons, All-head, All-nil, All-tail}
 use Rattle.std.specs.List.{All, AllZip}
@@ -157,3 +157,17 @@ groups_many locations groups retries items same are =
     let many : length items ≡ length groups = sym (length-map items locations) ∙ ap length same in
     let few = few_groups groups are.each in
     (omega (arith, many, are.some), omega (arith, many, few, are.few))
+
+-- the number of each group's active store is inside the group
+pub active_inside : {L D K : Type 0} (place : L → List ℕ) (xs : List (Grouped (AnyStore L D K))) (groups : List (List Location)) → map (locations_in place) xs ≡ groups → All (λ g. g.active < length g.stores) xs
+    → (k : ℕ) → k < length groups → slice_index (map (λ g. g.active) xs) k < length (slice_index_or groups k [])
+active_inside place [] groups same inside k lt =
+    let none : length groups ≡ 0 = ap length (sym same) in
+    absurd (omega (arith, lt, none))
+active_inside {L} {D} {K} place (g ∷ xs) [] same inside k lt = absurd (cc)
+active_inside {L} {D} {K} place (g ∷ xs) (q ∷ groups) same inside zero lt =
+    let one : length g.stores ≡ length q = sym (length-map g.stores (location_in place)) ∙ ap length (cons_head (locations_in place g) q (map (locations_in place) xs) groups same) in
+    let at = All-head (λ (h : Grouped (AnyStore L D K)). h.active < length h.stores) g xs inside in
+    omega (arith, one, at)
+active_inside {L} {D} {K} place (g ∷ xs) (q ∷ groups) same inside (suc k) lt =
+    active_inside place xs groups (cons_tail (locations_in place g) q (map (locations_in place) xs) groups same) (All-tail (λ (h : Grouped (AnyStore L D K)). h.active < length h.stores) g xs inside) k (omega (arith, lt))
