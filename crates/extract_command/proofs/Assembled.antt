@@ -31,9 +31,9 @@ use Rattle.store_chain.specs.Giving.{LacksAll}
 use Rattle.store_chain.specs.declared.refused.Refused.{Refused}
 use Rattle.store_chain.specs.declared.refused.Refused.TheVariants as refused
 use Rattle.extract_command.proofs.Seeded.{given_had, had_given}
-use Rattle.command_groups.proofs.Lacked.{lacks_numbered}
+use Rattle.command_groups.proofs.Lacked.{damaged_is, lacks_numbered}
 use Rattle.command_groups.specs.Groups.{first_store, group_files}
-use Rattle.command_groups.specs.Lacking.{GroupsLack, group_said}
+use Rattle.command_groups.specs.Lacking.{GroupsLack}
 use Rattle.command_groups.specs.Numbers.{IsNumbered, answer_of_stores}
 use Rattle.command_steps.proofs.Taken.{at_name_twice}
 use Rattle.command_steps.specs.Sources.{Storage}
@@ -41,8 +41,6 @@ use Rattle.extract_command.specs.Extract.{Assembled, CacheLacksEntry, CanBeHad, 
 use Rattle.command_steps.specs.Seeds.{IsViewed}
 use Rattle.command_worlds.specs.Worlds.{DiskQuiet, FileRose}
 use Rattle.extract_command.specs.declared.stores.Stores.{Stores}
-use Rattle.store_chain.specs.Lists.{FirstAt}
-use Rattle.store_chain.specs.Refusals.{HasShown, Lacks}
 
 over_told : {X Y Z : Type 0} (x : Option X) (y : Option Y) (z : Option Z) (P : X → Y → Z → Type 0) → ((a : X) (b : Y) (c : Z) → x ≡ Some a → y ≡ Some b → z ≡ Some c → P a b c) → IfSome x (λ a. IfSome y (λ b. IfSome z (λ c. P a b c)))
 over_told None y z P f = tt
@@ -184,12 +182,6 @@ lost_on P R f (Err (faults.StoreFault s)) p = (p.0, p.1, f p.0 p.1 (refused.Stor
 lost_on P R f (Err faults.TargetFault) p = tt
 lost_on P R f (Err faults.Memory) p = tt
 
--- the element that a list has there
-first_inside : {X : Type 0} (B A C : X → Type 0) (k : ℕ) (xs : List X) → FirstAt B A C k xs → k < length xs
-first_inside B A C k [] h = absurd h
-first_inside B A C zero (x ∷ xs) h = omega arith
-first_inside B A C (suc k) (x ∷ xs) h = let rest = first_inside B A C k xs h.1 in omega (arith, rest)
-
 -- ---- what is known of an assembly that ended so
 
 -- the store where one is named
@@ -273,9 +265,7 @@ module _ (w v : Storage) (stores : Stores) (cache : Option (List ℕ)) (out : In
         → IsLacking w v b n cache out l x stores k id (refused.Damaged (first_store stores.groups s + slice_index active s) y)
     damaged b n k id s y h =
         let c = chunk_of (kind_of l) id (size_of l k) in
-        let lt = first_inside (λ g. (group_said w v g).denied c.id.0) (λ g. HasShown c y (group_said w v g)) (λ g. Lacks c (group_said w v g)) s stores.groups h.0 in
-        let at = inside s lt in
-        h.1 (refused.Damaged (first_store stores.groups s + slice_index active s) y) (first_store stores.groups s + slice_index active s, refl, (omega arith, omega (arith, at)))
+        h.1 (refused.Damaged (first_store stores.groups s + slice_index active s) y) (damaged_is stores.retries c w v stores.groups active inside s y h.0)
 
     pub assembled : (r : Result Report ExtractFault) → AllFacts r → IfErr r (TargetAs (FileRose d e out.name)) → IfErr r (StoreAs (λ s. StopsFailed w v stores l (first_store stores.groups s)))
         → Assembled w v stores cache out l x (answer_of_stores stores.groups active (answer_of_assembly r))

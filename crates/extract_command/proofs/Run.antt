@@ -23,7 +23,7 @@ use Rattle.command_steps.proofs.Cached.{given_adds, given_folders}
 use Rattle.command_steps.proofs.Dialed.{dials_none, dials_twice}
 use Rattle.command_groups.proofs.Given.{group_given_earlier, group_given_longer}
 use Rattle.command_groups.proofs.Quiet.{groups_quiet}
-use Rattle.command_groups.proofs.Stand.{folders_still, found_after, fresh_counts, groups_hold, groups_stand_still, groups_tell}
+use Rattle.command_groups.proofs.Stand.{active_inside, folders_still, found_after, fresh_counts, groups_hold, groups_stand_still, groups_tell}
 use Rattle.command_groups.proofs.Standing.{GroupStands, all_groups_stand}
 use Rattle.command_groups.proofs.Words.{group_words}
 use Rattle.command_groups.specs.Asking.{GroupsDialed, WorkersGroupsDialed, with_retries}
@@ -112,20 +112,6 @@ added_longer held faults b c e le xs added = λ n s lt. let here = added n s lt 
 
 first_less : {X : Type 0} (x : X) (xs : List X) → 0 < length (x ∷ xs)
 first_less x xs = omega arith
-
--- the active store of each group is one of those that its words name
-inside_groups : {L D K : Type 0} (place : L → List ℕ) (xs : List (Grouped (AnyStore L D K))) (groups : List (List Location)) → map (locations_in place) xs ≡ groups → All (λ g. g.active < length g.stores) xs
-    → (k : ℕ) → k < length groups → slice_index (map (λ g. g.active) xs) k < length (slice_index_or groups k [])
-inside_groups place [] [] same active k lt = absurd (omega (arith, lt))
-inside_groups place [] (q ∷ groups) same active k lt = absurd (cc)
-inside_groups place (g ∷ xs) [] same active k lt = absurd (cc)
-inside_groups place (g ∷ xs) (q ∷ groups) same active zero lt =
-    let here = cons_head (locations_in place g) q (map (locations_in place) xs) groups same in
-    let size : length q ≡ length g.stores = sym (ap length here) ∙ length-map g.stores (location_in place) in
-    let first = active 0 g (omega arith) in
-    omega (arith, size, first)
-inside_groups place (g ∷ xs) (q ∷ groups) same active (suc k) lt =
-    inside_groups place xs groups (cons_tail (locations_in place g) q (map (locations_in place) xs) groups same) (λ j h less. active (suc j) h (omega (arith, less))) k (omega (arith, lt))
 
 there : {X Y : Type 0} (xs : List X) (ys : List Y) → length ys ≡ length xs → (n : ℕ) → n < length ys → n < length xs
 there xs ys many n lt = omega (arith, lt, many)
@@ -406,11 +392,11 @@ module _ {L V D K : Type 0} (look : LookWords L) (view : ViewWords V) (state : D
     abbrev pub active : List ℕ
     active = map (λ g. g.active) now
 
-    active_inside : (k : ℕ) → k < length names.groups → slice_index active k < length (slice_index_or names.groups k [])
-    active_inside = inside_groups look.place now names.groups now_at (λ i g lt. (x.given i g lt).active)
+    inside : (k : ℕ) → k < length names.groups → slice_index active k < length (slice_index_or names.groups k [])
+    inside = active_inside look.place now names.groups now_at (λ i g lt. (x.given i g lt).active)
 
     pub run_assembled : Assembled w v names cache out l z (answer_of_stores names.groups active (answer_of_assembly r))
-    run_assembled = assembled w v names cache out l z active active_inside r
+    run_assembled = assembled w v names cache out l z active inside r
         (facts_of w v names cache out l z (λ maps base. IsObtainable t base views maps)
         (λ m told maps base i lt. had_of d x.b t z views one.viewed is_here m told base maps i lt)
         (λ m told still maps base i lt. obtainable_of d x.b t z views one.viewed is_here m told base maps i lt (quiet_opened still))
