@@ -1,5 +1,5 @@
 -- What an assembly over taken files and folders makes of the answer.
-use Rattle.std.proofs.Common.{ap, arith, zero, suc, ◌∷◌, slice_index, slice_index_or, ◌⊎◌, true, is_some, unwrap_or, ◌≡◌, ℕ, ◌+◌, ◌<◌, ◌≤◌, ◌-◌, List, ◌++◌, append-nil, length, map, replicate, take, Option, Some, None, IfSome, IfErr, refl, subst, ◌∙◌, sym, inl, inr, [], length-append, Result, Ok, Err}
+use Rattle.std.proofs.Common.{ap, arith, slice_index, slice_index_or, ◌⊎◌, true, is_some, unwrap_or, ◌≡◌, ℕ, ◌+◌, ◌<◌, ◌≤◌, ◌-◌, List, ◌++◌, append-nil, length, map, replicate, take, Option, Some, None, IfSome, IfErr, refl, subst, ◌∙◌, sym, inl, inr, [], length-append, Result, Ok, Err}
 use Rattle.assembler.specs.Assemblies.{After, Assembles, IsObtainable, KeepsBase, KeepsTorn, RightAlike, Verdict}
 use Rattle.assembler.specs.Obtainable.{IsObtainableOrBase, OnlyObtainable}
 use Rattle.assembler.specs.Passes.{want_at}

@@ -1,15 +1,14 @@
 -- Kits that are opened and given back, one after the other.
-use Rattle.std.proofs.Common.{◌≡◌, ◌≢◌, ◌∙◌, is_some, true, ◌++◌, ℕ, suc, ◌+◌, ◌<◌, ◌≤◌, ◌⊎◌, List, [], ◌∷◌, length, map, slice_index_or, All, IsTrue, Option, Some, None, IfSome, IsSome, Result, Ok, is_ok, if◌then◌else◌, refl, sym, ap, subst, inl, inr, arith}
-use Rattle.std.proofs.Math.Seq.{get_or-append_seam}
+use Rattle.std.proofs.Common.{◌≡◌, ◌≢◌, ◌∙◌, is_some, true, ◌++◌, ℕ, ◌+◌, ◌<◌, ◌≤◌, ◌⊎◌, List, [], ◌∷◌, length, map, slice_index_or, All, IsTrue, Option, Some, None, IfSome, IsSome, refl, sym, ap, subst, inl, inr, arith}
 use Rattle.std.proofs.lemmas.Bool.{true≢false}
-use Rattle.std.proofs.lemmas.List.{append-nil, get_or_append_left, length-append}
+use Rattle.std.proofs.lemmas.List.{append-nil}
 use Rattle.std.proofs.lemmas.List.Elements.{All-cons, All-nil, All-tail}
-use Rattle.std.specs.List.{AllZip, fold, insert, remove}
+use Rattle.std.specs.List.{AllZip, fold}
 use Rattle.std.specs.Map.{count_at}
 use Rattle.chunk_sources.specs.declared.kit.Kit.{Kit}
 use Rattle.command_steps.proofs.Asking.{none_dialed}
 use Rattle.cache_store.specs.Shelves.{Shelf}
-use Rattle.command_steps.proofs.Consulted.{consults_none, consults_twice, reads_none}
+use Rattle.command_steps.proofs.Consulted.{consults_twice, reads_none}
 use Rattle.command_steps.proofs.Dialed.{dials_none}
 use Rattle.command_steps.proofs.Given.{all_later}
 use Rattle.command_steps.proofs.InTurn.{all_last, turn_consults}

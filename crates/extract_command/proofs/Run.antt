@@ -1,5 +1,5 @@
 -- An assembly over kits that were lent to it, from the disk that stood before them to the one after all was given back.
-use Rattle.std.proofs.Common.{◌≡◌, ◌∙◌, ◌++◌, ℕ, zero, suc, ◌+◌, ◌<◌, ◌≤◌, List, [], ◌∷◌, All, Bool, length, drop, map, slice_index, slice_index_or, IsTrue, is_some, Option, Some, None, IfSome, IsSomeAnd, Result, refl, sym, ap, subst, arith}
+use Rattle.std.proofs.Common.{◌≡◌, ◌∙◌, ◌++◌, ℕ, suc, ◌+◌, ◌<◌, ◌≤◌, List, [], ◌∷◌, All, Bool, length, drop, map, slice_index, slice_index_or, IsTrue, is_some, Option, Some, None, IfSome, IsSomeAnd, Result, refl, sym, ap, subst, arith}
 use Rattle.std.proofs.lemmas.List.{length-map}
 use Rattle.std.proofs.lemmas.List.Elements.{All-cons}
 use Rattle.std.specs.List.{fold}
@@ -32,7 +32,7 @@ use Rattle.command_groups.specs.Numbers.{answer_of_stores}
 use Rattle.command_groups.specs.Opened.{IsGroupGiven, files_in, locations_in, told_files, with_group}
 use Rattle.command_steps.proofs.Lent.{each_quiet, store_rose}
 use Rattle.command_steps.proofs.Numbers.{given_quiet, given_rose, rose_longer, rose_not_quiet}
-use Rattle.command_steps.specs.AnyStores.{location_in, source_faults}
+use Rattle.command_steps.specs.AnyStores.{source_faults}
 use Rattle.command_steps.specs.Asking.{AsksFew, EachDialed, SendsFronts}
 use Rattle.command_steps.specs.Seeds.{name_at}
 use Rattle.command_steps.specs.Cache.{CacheGiven, folders_with, with_cache}
@@ -75,7 +75,6 @@ use Rattle.image_workers.specs.Shared.{all_stores}
 use Rattle.range_ledger.specs.Fills.{WhereTold}
 use Rattle.range_survey.specs.Excuses.{Excuses}
 use Rattle.range_survey.specs.declared.report.Report.{Report}
-use Rattle.store_chain.proofs.Pairs.{cons_head, cons_tail}
 use Rattle.store_group.specs.Groups.{Grouped}
 
 -- the numbers of files and folders rise over the steps

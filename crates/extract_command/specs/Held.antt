@@ -26,7 +26,6 @@ use Rattle.extract_plan.specs.Seeds.{faults_in, seed_held}
 use Rattle.extract_command.specs.Extract.{folders_reached}
 use Rattle.extract_command.specs.Kits.{AreGivenBack, AreNamesOf, CanGiveKit, UsesNames}
 use Rattle.extract_command.specs.declared.held.Held.{Held}
-use Rattle.extract_command.specs.declared.stores.Stores.{Stores}
 use Rattle.store_group.specs.Groups.{Grouped}
 
 -- the stores were opened, and then the cache's folder was reached

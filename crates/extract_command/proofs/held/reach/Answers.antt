@@ -1,4 +1,4 @@
-use Rattle.std.proofs.Common.{◌≡◌, ◌∙◌, ℕ, [], All, IfSome, IsSome, List, Ok, inr, map, rules, subst, sym}
+use Rattle.std.proofs.Common.{◌≡◌, ◌∙◌, [], All, IfSome, IsSome, List, Ok, inr, map, rules, subst, sym}
 use Rattle.std.proofs.lemmas.List.Elements.{All-nil}
 use Rattle.chunk_sources.specs.Caches.{seen}
 use Rattle.command_steps.proofs.Cached.{cache_longer, cache_reads}
