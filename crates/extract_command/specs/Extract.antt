@@ -1,4 +1,4 @@
--- `extract [-k] -s STORE.. -c FOLDER --seed INDEX.. INDEX OUT`. A name is its bytes.
+-- `extract [-k] -s STORE.. -e N -c FOLDER --seed INDEX.. INDEX OUT`. A name is its bytes.
 use Rattle.std.specs.Prelude.{◌≡◌, ◌⊎◌, ◌++◌, codes, Bool, true, false, if◌then◌else◌, is_some, ℕ}
 use Rattle.std.specs.Prelude.{◌+◌, ◌<◌, ◌≤◌}
 use Rattle.std.specs.Prelude.{length, List, [], ◌∷◌, map, Option, Some, None, IfSome, IsSome, IsSomeAnd, IsTrue}

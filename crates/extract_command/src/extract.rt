@@ -312,7 +312,8 @@ where
 
 /// Makes OUT the image that INDEX lists: in its place, where what it holds already is kept where it is right; or by way
 /// of a temporary file, which takes OUT's name when it is the image. Chunks come from the images of the seeds, else
-/// from the cache, and else from the stores, which are asked in order. What a store gave is added to the cache. Each
+/// from the cache, and else from the stores, whose groups are asked in order. A call on a store that fails is made up
+/// to `retries` times more, and then on the next store of its group. What a store gave is added to the cache. Each
 /// worker has stores and seeds of its own; where they can't be opened again, or there is no memory for as many workers,
 /// there are fewer.
 pub fn extract<R: Threads + Wait + Sync, F: Files, D: Dial + Send>(
