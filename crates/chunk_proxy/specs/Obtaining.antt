@@ -31,16 +31,16 @@ pub record IsRightChunk (kind : DigestKind) (id b : List ℕ) : Type 0 where
 
 -- what the reply tells of a refusal of the stores: that there is no chunk, or that a store has failed. For want of memory
 -- no reply is sent
-abbrev pub TellsRefusal : Refused → Answer → Type 0
-TellsRefusal refused.Missing r = r ≡ bare 404
-TellsRefusal (refused.Damaged store shows) r = r ≡ bare 404
-TellsRefusal (refused.StoreFault store) r = r ≡ bare 500
-TellsRefusal refused.Memory r = ⊥
+abbrev pub AnswersRefusal : Refused → Answer → Type 0
+AnswersRefusal refused.Missing r = r ≡ bare 404
+AnswersRefusal (refused.Damaged store shows) r = r ≡ bare 404
+AnswersRefusal (refused.StoreFault store) r = r ≡ bare 500
+AnswersRefusal refused.Memory r = ⊥
 
 -- what the reply tells of what was obtained: the chunk, or why there is none
 abbrev pub TellsOf : ReadMethod → Result Got Refused → List ℕ → Answer → Type 0
 TellsOf m (Ok got) out r = (got.kept ≢ kept.Memory) × (r ≡ answer_by m (Some (take got.size out)))
-TellsOf m (Err x) out r = TellsRefusal x r
+TellsOf m (Err x) out r = AnswersRefusal x r
 
 module _ {F S : Type 0} (files : F → Option (Map (List ℕ))) (place : F → List ℕ) (faults : F → ℕ)
     (store : StoreWords S) where

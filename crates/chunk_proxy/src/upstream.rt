@@ -2,7 +2,7 @@
 
 ghost use Rattle.std.specs.Prelude.{◌≡◌, ◌≤◌, length, IfOk, OnOk};
 ghost use Rattle.caibx_fields.specs.Limits.{size_limit};
-ghost use Rattle.chunk_proxy.specs.Obtaining.{TellsRefusal};
+ghost use Rattle.chunk_proxy.specs.Obtaining.{AnswersRefusal};
 ghost use Rattle.http_serve.specs.Answers.{answer_in};
 
 use caibx_fields::format::SIZE_LIMIT;
@@ -25,7 +25,7 @@ pub fn take_room(buffer: &mut Vec<u8>) -> Result<(), Memory>
 
 /// The reply where the stores refuse: 404 where none holds the chunk, 500 where one has failed.
 pub fn tell_refused(alloc: Global, refused: &Refused) -> Result<Reply, Memory>
-    ensures ok { IfOk result (λ r. TellsRefusal refused.now (answer_in r)) }
+    ensures ok { IfOk result (λ r. AnswersRefusal refused.now (answer_in r)) }
 {
     match refused {
         Refused::Missing => Ok(Reply::bare(alloc, 404)),

@@ -2,7 +2,7 @@
 use Rattle.std.proofs.Common.{◌≡◌, ◌≢◌, ◌⊎◌, ℕ, List, [], Bool, Option, Some, None, IfSome, IfOk, IsSome, IsTrue, Result, Ok, Err, refl, sym, ap, subst, ◌∙◌, inl, inr, arith}
 use Rattle.std.proofs.lemmas.Bool.{true≢false}
 use Rattle.chunk_proxy.specs.Answers.{IsProxyAnswer, given_by_stores}
-use Rattle.chunk_proxy.specs.Obtaining.{IsRightChunk, TellsRefusal}
+use Rattle.chunk_proxy.specs.Obtaining.{IsRightChunk, AnswersRefusal}
 use Rattle.chunk_server.specs.Answers.{Answer, bare, chunk_held}
 use Rattle.chunk_server.specs.Reads.{answer_by, asked_by}
 use Rattle.chunk_server.specs.Shelves.{IsAnswer, IsBare}
@@ -128,7 +128,7 @@ module _ (kind : DigestKind) (id : ChunkId) where
     }
 
     -- the stores refused
-    pub supplies_none : (m : ReadMethod) (x : Refused) (r : Answer) → Withholds kind maps stores_sure id.0 x → TellsRefusal x r → Supplies kind maps stores_sure m id r
+    pub supplies_none : (m : ReadMethod) (x : Refused) (r : Answer) → Withholds kind maps stores_sure id.0 x → AnswersRefusal x r → Supplies kind maps stores_sure m id r
     supplies_none m refused.Missing r none is = lacking m r is none
     supplies_none m (refused.Damaged s x) r none is = lacking m r is none
     supplies_none m (refused.StoreFault s) r never is = record {

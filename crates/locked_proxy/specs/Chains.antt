@@ -30,17 +30,17 @@ pub record ProxyRules : Type 0 where
   pub chains : ℕ
 
 -- what each of these holds, where all tell it
-abbrev pub all_told : List (Option (Map (List ℕ))) → Option (List (Map (List ℕ)))
-all_told [] = Some []
-all_told (None ∷ more) = None
-all_told (Some m ∷ more) = option_map (λ ms. m ∷ ms) (all_told more)
+abbrev pub maps_all_told : List (Option (Map (List ℕ))) → Option (List (Map (List ℕ)))
+maps_all_told [] = Some []
+maps_all_told (None ∷ more) = None
+maps_all_told (Some m ∷ more) = option_map (λ ms. m ∷ ms) (maps_all_told more)
 
 -- what the stores of the first chain hold, where all tell it
 abbrev pub maps_told : {S : Type 0} → (S → Option (Map (List ℕ))) → List (Chained S) → Option (List (Map (List ℕ)))
 maps_told holds [] = None
-maps_told holds (c ∷ more) = all_told (map holds c.stores)
+maps_told holds (c ∷ more) = maps_all_told (map holds c.stores)
 
 -- the names that the folders of the first chain's stores were taken under
-abbrev pub places_of : {S : Type 0} → (S → List ℕ) → List (Chained S) → List (List ℕ)
-places_of place [] = []
-places_of place (c ∷ more) = map place c.stores
+abbrev pub chain_places : {S : Type 0} → (S → List ℕ) → List (Chained S) → List (List ℕ)
+chain_places place [] = []
+chain_places place (c ∷ more) = map place c.stores

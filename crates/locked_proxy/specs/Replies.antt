@@ -12,7 +12,7 @@ use Rattle.dsy_base.specs.Links.{LinkState}
 use Rattle.dsy_base.specs.Maps.{Map}
 use Rattle.http_wire.specs.declared.request.Act.{Act}
 use Rattle.http_wire.specs.declared.request.Act.TheVariants as act
-use Rattle.locked_shelf.specs.Endings.{EndsBy}
+use Rattle.locked_shelf.specs.Endings.{EndsServing}
 
 -- a chunk that is asked for, and that this function gives by its id, is answered 200
 abbrev pub GivesWhere : (List ℕ → Option (List ℕ)) → Act → Answer → Type 0
@@ -44,4 +44,4 @@ pub record Supplies (kind : DigestKind) (maps : Option (List (Map (List ℕ)))) 
 abbrev pub EndsThrough : DigestKind → Option (Map (List ℕ)) → Option (List (Map (List ℕ))) → Bool → Bool → Bool → Bool
     → LinkState → Type 0
 EndsThrough kind opening maps cache_sure stores_sure tells =
-    EndsBy kind (λ a body r. MayProxy kind opening maps cache_sure stores_sure a r) false tells
+    EndsServing kind (λ a body r. MayProxy kind opening maps cache_sure stores_sure a r) false tells

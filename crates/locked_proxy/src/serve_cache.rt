@@ -4,7 +4,7 @@
 ghost use Rattle.std.specs.Prelude.{◌≡◌, ◌≢◌, ◌<◌, ◌≤◌, [], vec_len, All, IfSome, Some};
 ghost use Rattle.chunk_store.specs.Kinds.{kind_named};
 ghost use Rattle.dsy_base.specs.Counts.{Rose};
-ghost use Rattle.locked_proxy.specs.Chains.{IsChainOf, maps_told, places_of};
+ghost use Rattle.locked_proxy.specs.Chains.{IsChainOf, maps_told, chain_places};
 ghost use Rattle.locked_proxy.specs.Replies.{EndsThrough};
 ghost use Rattle.locked_shelf.specs.Keepings.{KeepsOpening};
 ghost use Rattle.locked_shelf.specs.Listening.{ServesAll, ServesSome};
@@ -81,6 +81,7 @@ where
     ensures lacking { ServesSome (EndsThrough (kind_named N.kind) N.opening P.maps F.never_fails S.never_fails L.Link.tells)
         (L.state listen.old) (L.state listen.new) }
     ensures cause { result.2 ≡ AllServed.ListenFault → Rose (L.state listen.old).faults (L.state listen.new).faults }
+    ensures unfailed { result.2 ≡ AllServed.Memory → (L.state listen.new).faults ≡ (L.state listen.old).faults }
     ensures faults { (L.state listen.old).faults ≤ (L.state listen.new).faults }
 {
     let named = name_cache::<F, N>(cache);
@@ -111,21 +112,22 @@ where
     L::Link: Send,
     requires some { 0 < vec_len chains }
     requires alike { All (IsChainOf S.Store cache.kind (maps_told S.holds chains.items)
-        (Some (places_of S.place chains.items))) chains.items }
+        (Some (chain_places S.place chains.items))) chains.items }
     ensures kept { IfSome (F.files cache.folder) (λ first. KeepsOpening cache.kind first (F.files result.0.folder)) }
     ensures place { F.place result.0.folder ≡ F.place cache.folder }
     ensures kind { result.0.kind ≡ cache.kind }
     ensures number { vec_len result.1 ≡ vec_len chains }
     ensures chains { All (IsChainOf S.Store cache.kind (maps_told S.holds chains.items)
-        (Some (places_of S.place chains.items))) result.1.items }
+        (Some (chain_places S.place chains.items))) result.1.items }
     ensures end { result.2 ≡ AllServed.Ended → (L.state listen.new).coming ≡ Some [] }
-    ensures served { result.2 ≢ AllServed.Short → result.2 ≢ AllServed.Memory → ServesAll (EndsThrough cache.kind (F.files cache.folder)
-        (maps_told S.holds chains.items) F.never_fails S.never_fails L.Link.tells)
-        (L.state listen.old) (L.state listen.new) }
+    ensures served { result.2 ≢ AllServed.Short → result.2 ≢ AllServed.Memory →
+        ServesAll (EndsThrough cache.kind (F.files cache.folder) (maps_told S.holds chains.items) F.never_fails
+        S.never_fails L.Link.tells) (L.state listen.old) (L.state listen.new) }
     ensures lacking { ServesSome (EndsThrough cache.kind (F.files cache.folder)
         (maps_told S.holds chains.items) F.never_fails S.never_fails L.Link.tells)
         (L.state listen.old) (L.state listen.new) }
     ensures cause { result.2 ≡ AllServed.ListenFault → Rose (L.state listen.old).faults (L.state listen.new).faults }
+    ensures unfailed { result.2 ≡ AllServed.Memory → (L.state listen.new).faults ≡ (L.state listen.old).faults }
 {
     match listen.bind(host, port) {
         Ok(()) => serve_named::<L, F, S, Brand, Brand, R>(rt, alloc, listen, cache, chains),

@@ -39,7 +39,7 @@ module _ (kind : DigestKind) (may : Act → List ℕ → Answer → Type 0) (wri
   HasEndedSo true l = (l.faults ≡ 0) × IfSome l.traffic IsBrokenOff
 
 -- the same, where the bytes are told exactly where `tells` is true
-pub record EndsBy
+pub record EndsServing
     (kind : DigestKind) (may : Act → List ℕ → Answer → Type 0) (writable tells lacking : Bool) (l : LinkState)
     : Type 0 where
   pub told : is_some l.traffic ≡ tells
@@ -47,7 +47,7 @@ pub record EndsBy
 
 -- the same over a folder whose type names the digest of its chunks, and the files that it began with
 abbrev pub EndsOver : DigestKind → Option (Map (List ℕ)) → Bool → Bool → Bool → Bool → LinkState → Type 0
-EndsOver kind opening never_fails writable tells = EndsBy kind (MayReply kind opening never_fails) writable tells
+EndsOver kind opening never_fails writable tells = EndsServing kind (MayReply kind opening never_fails) writable tells
 
 -- a connection that has ended, and whether there was no memory to serve it
 pub record Gone (K : Type 0) : Type 0 where

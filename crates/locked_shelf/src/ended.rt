@@ -2,7 +2,7 @@
 
 ghost use Rattle.std.specs.Prelude.{◌≡◌, Bool, true};
 ghost use Rattle.dsy_base.specs.Links.{IsFreshLink};
-ghost use Rattle.locked_shelf.specs.Endings.{EndsBy};
+ghost use Rattle.locked_shelf.specs.Endings.{EndsServing};
 
 use crate::shared_shelf::SharedShelf;
 use dsy_base::link::Link;
@@ -29,20 +29,20 @@ pub(crate) struct EndedLink<K: Link, D: SharedShelf, M: Mode> {
 }
 
 impl<K: Link, D: SharedShelf, M: Mode> Model for EndedLink<K, D, M> {
-    ghost use Rattle.locked_shelf.specs.Endings.{EndsBy, Gone};
+    ghost use Rattle.locked_shelf.specs.Endings.{EndsServing, Gone};
 
     ghost Value = { Gone K };
 
     ghost view = { λ s. record { link = s.link; lacking = s.lacking } };
 
-    ghost invariant = { λ s. EndsBy D.digest D.may M.writable K.tells s.lacking (K.state s.link) };
+    ghost invariant = { λ s. EndsServing D.digest D.may M.writable K.tells s.lacking (K.state s.link) };
 }
 
 impl<K: Link, D: SharedShelf, M: Mode> EndedLink<K, D, M> {
     /// The connection, and whether there was no memory for it.
     pub fn into_parts(self) -> (K, bool)
         ensures value { result ≡ (self.link, self.lacking) }
-        ensures ended { EndsBy D.digest D.may M.writable K.tells result.1 (K.state result.0) }
+        ensures ended { EndsServing D.digest D.may M.writable K.tells result.1 (K.state result.0) }
     {
         (self.link, self.lacking)
     }

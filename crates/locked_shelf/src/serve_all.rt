@@ -4,7 +4,7 @@ ghost use Rattle.std.specs.Prelude.{◌≡◌, ◌≢◌, ◌<◌, ◌≤◌, �
 ghost use Rattle.std.specs.Option.{option_map};
 ghost use Rattle.dsy_base.specs.Counts.{Rose};
 ghost use Rattle.dsy_base.specs.Links.{IsFreshLink};
-ghost use Rattle.locked_shelf.specs.Endings.{EndsBy};
+ghost use Rattle.locked_shelf.specs.Endings.{EndsServing};
 ghost use Rattle.locked_shelf.specs.Listening.{GivesBack, HasHeard, ServesAll, ServesSome};
 
 use crate::ended::{EndedLink, Mode, serve_new};
@@ -61,7 +61,7 @@ fn give_one<L: Listen, D: SharedShelf, M: Mode>(
 )
     ensures given { (L.state listen.new).ended
         ≡ option_map (λ done. done ++ L.Link.state ended.link ∷ []) (L.state listen.old).ended }
-    ensures ended { GivesBack (EndsBy D.digest D.may M.writable L.Link.tells)
+    ensures ended { GivesBack (EndsServing D.digest D.may M.writable L.Link.tells)
         (L.state listen.old) (L.state listen.new) tally.old tally.new }
 {
     let (link, lacking) = ended.into_parts();
@@ -75,7 +75,7 @@ fn give_back<L: Listen, D: SharedShelf, M: Mode>(
     gathered: Gathered<L::Link, D, M>,
     tally: &mut Tally,
 )
-    ensures ended { GivesBack (EndsBy D.digest D.may M.writable L.Link.tells)
+    ensures ended { GivesBack (EndsServing D.digest D.may M.writable L.Link.tells)
         (L.state listen.old) (L.state listen.new) tally.old tally.new }
 {
     tally.lose(gathered.lost);
@@ -93,7 +93,7 @@ fn make_room<L: Listen, D: SharedShelf, M: Mode, R: Wait>(
     tally: &mut Tally,
 )
     ensures room { tally.new.pending < MOST }
-    ensures ended { GivesBack (EndsBy D.digest D.may M.writable L.Link.tells)
+    ensures ended { GivesBack (EndsServing D.digest D.may M.writable L.Link.tells)
         (L.state listen.old) (L.state listen.new) tally.old tally.new }
 {
     give_back(listen, gathering.take(rt, alloc), tally);
@@ -121,7 +121,7 @@ fn hear<'s, E, L: Listen, D: SharedShelf + Send + Sync, M: Mode + Send, R: Threa
 where
     L::Link: Send,
     requires mode { D.takes shelf.now ≡ M.writable }
-    ensures served { HasHeard (EndsBy D.digest D.may M.writable L.Link.tells)
+    ensures served { HasHeard (EndsServing D.digest D.may M.writable L.Link.tells)
         (L.state listen.old) (L.state listen.new) result.0 result.1 }
 {
     let mut tally = Tally {
@@ -163,7 +163,7 @@ fn serve_scoped<'x, L: Listen, D: SharedShelf + Send + Sync, M: Mode + Send, R: 
 where
     L::Link: Send,
     requires mode { D.takes shelf.now ≡ M.writable }
-    ensures served { HasHeard (EndsBy D.digest D.may M.writable L.Link.tells)
+    ensures served { HasHeard (EndsServing D.digest D.may M.writable L.Link.tells)
         (L.state listen.old) (L.state listen.new) result.0 result.1 }
 {
     let lent = &mut *listen;
@@ -173,7 +173,7 @@ where
         move |scope| -> (&mut L, AllServed, Tally)
             requires { D.takes shelf.now ≡ M.writable }
             ensures same { result.0.ghost_name ≡ lent.entry.ghost_name }
-            ensures served { HasHeard (EndsBy D.digest D.may M.writable L.Link.tells)
+            ensures served { HasHeard (EndsServing D.digest D.may M.writable L.Link.tells)
                 (L.state lent.entry.now) (L.state result.0.now) result.1 result.2 }
         {
             let (served, tally) = hear(rt, alloc, scope, lent, shelf, gathering, one_by_one);
@@ -197,9 +197,9 @@ where
     requires mode { D.takes shelf.now ≡ M.writable }
     ensures end { result ≡ AllServed.Ended → (L.state listen.new).coming ≡ Some [] }
     ensures served { result ≢ AllServed.Short → result ≢ AllServed.Memory →
-        ServesAll (EndsBy D.digest D.may M.writable L.Link.tells)
+        ServesAll (EndsServing D.digest D.may M.writable L.Link.tells)
         (L.state listen.old) (L.state listen.new) }
-    ensures lacking { ServesSome (EndsBy D.digest D.may M.writable L.Link.tells)
+    ensures lacking { ServesSome (EndsServing D.digest D.may M.writable L.Link.tells)
         (L.state listen.old) (L.state listen.new) }
     ensures cause { result ≡ AllServed.ListenFault → Rose (L.state listen.old).faults (L.state listen.new).faults }
     ensures unfailed { result ≡ AllServed.Memory → (L.state listen.new).faults ≡ (L.state listen.old).faults }
@@ -227,9 +227,9 @@ where
     L::Link: Send,
     ensures end { result ≡ AllServed.Ended → (L.state listen.new).coming ≡ Some [] }
     ensures served { result ≢ AllServed.Short → result ≢ AllServed.Memory →
-        ServesAll (EndsBy D.digest D.may (D.takes shelf.now) L.Link.tells)
+        ServesAll (EndsServing D.digest D.may (D.takes shelf.now) L.Link.tells)
         (L.state listen.old) (L.state listen.new) }
-    ensures lacking { ServesSome (EndsBy D.digest D.may (D.takes shelf.now) L.Link.tells)
+    ensures lacking { ServesSome (EndsServing D.digest D.may (D.takes shelf.now) L.Link.tells)
         (L.state listen.old) (L.state listen.new) }
     ensures cause { result ≡ AllServed.ListenFault → Rose (L.state listen.old).faults (L.state listen.new).faults }
     ensures unfailed { result ≡ AllServed.Memory → (L.state listen.new).faults ≡ (L.state listen.old).faults }

@@ -1,6 +1,6 @@
 use Rattle.std.proofs.Common.{None, Some}
 use Rattle.chunk_store.specs.Kinds.{kind_number}
-use Rattle.locked_proxy.specs.Chains.{maps_told, places_of}
+use Rattle.locked_proxy.specs.Chains.{maps_told, chain_places}
 use Rattle.locked_proxy.proofs.serve_cache.serve_cache.Given as goal
 
 -- the cache as it was handed in, and the digest that names its chunks
@@ -18,5 +18,5 @@ ghosts-serve_named-N-FolderName g a = record {
 abbrev pub ghosts-serve_named-P-ProxyName : goal.ghosts-serve_named-P-ProxyName
 ghosts-serve_named-P-ProxyName g a = record {
   maps = maps_told g.S.Store.holds a.chains.items;
-  places = Some (places_of g.S.Store.place a.chains.items);
+  places = Some (chain_places g.S.Store.place a.chains.items);
 }
