@@ -5,4 +5,5 @@ pub mod Limits
 pub mod Lists
 pub mod NoRoom
 pub mod Passing
+pub mod Places
 pub mod Stores

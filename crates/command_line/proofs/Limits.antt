@@ -29,7 +29,7 @@ use Rattle.command_words.specs.Limits.{AreFewStores, Fits}
 use Rattle.command_words.specs.Locations.{location_of, parts_of, index_place_of, is_index_url, NamesIndex}
 use Rattle.command_words.specs.OptionTable.{times, names, folder_and_indexes, written_index, command_named, takes_groups, takes_of, takes_value, times_of, command_rows, option_rows}
 use Rattle.command_words.specs.Roles.{by_role, times_of_role, words_as, word_as}
-use Rattle.command_words.specs.Values.{ends_in_caibx, is_seed, number_in_word, number_up_to, with_digit, with_digits}
+use Rattle.command_line.specs.Values.{ends_in_caibx, is_seed, number_in_word, number_up_to, with_digit, with_digits}
 use Rattle.command_line.proofs.Counts.{Passes, is_right, judged_right, named_right, operands_bounded, options_bounded, values_counted}
 use Rattle.command_line.proofs.Following.{roles_length}
 use Rattle.command_line.proofs.Lists.{words_counted}

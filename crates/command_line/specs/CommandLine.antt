@@ -23,8 +23,8 @@ use Rattle.command_words.specs.declared.usage.WordsFault.TheVariants as fault
 use Rattle.command_words.specs.Locations.{location_of, parts_of}
 use Rattle.command_words.specs.OptionTable.{command_named}
 use Rattle.command_words.specs.Roles.{WordsByRole, by_role, times_of_role, words_as, word_as}
-use Rattle.command_words.specs.Values.{number_in_word, workers_of, retries_of, byte_count_of, sizes_of, listen_of}
-use Rattle.command_words.specs.Values.{digest_of}
+use Rattle.command_line.specs.Values.{number_in_word, workers_of, retries_of, byte_count_of, sizes_of, listen_of}
+use Rattle.command_line.specs.Values.{digest_of}
 
 -- ---- what words that have passed say, by their roles
 

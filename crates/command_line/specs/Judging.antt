@@ -24,8 +24,8 @@ use Rattle.command_words.specs.declared.usage.WordsFault.TheVariants as fault
 use Rattle.command_words.specs.Locations.{location_of, parts_of, is_index_url, index_place_of}
 use Rattle.command_words.specs.OptionTable.{takes_of, takes_groups, times_of}
 use Rattle.command_words.specs.Roles.{WordsByRole, by_role, awaited, role_of, roles_of, times_of_role, words_as}
-use Rattle.command_words.specs.Values.{number_in_word, workers_of, retries_of, byte_count_of, sizes_of, listen_of}
-use Rattle.command_words.specs.Values.{is_seed, digest_of}
+use Rattle.command_line.specs.Values.{number_in_word, workers_of, retries_of, byte_count_of, sizes_of, listen_of}
+use Rattle.command_line.specs.Values.{is_seed, digest_of}
 
 -- ---- one word
 

@@ -12,11 +12,11 @@ ghost use Rattle.command_words.specs.OptionTable.{takes_of, times_of};
 
 use crate::checked_words::CheckedWords;
 use crate::locations::judge_store;
+use crate::values::{byte_count, digest, is_seed, listen, number, retries, sizes, workers};
 use command_words::location::{NoLocation, is_index_url, read_index_place};
 use command_words::option_table::{CommandKind, OptionKind, Takes};
 use command_words::roles::{Role, awaited, count_of, role_of, word};
 use command_words::usage::{UsageWhy, WordsFault};
-use command_words::values::{byte_count, digest, is_seed, listen, number, retries, sizes, workers};
 use std::alloc::Global;
 
 /// Why a word is refused.

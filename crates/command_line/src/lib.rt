@@ -6,6 +6,7 @@ mod command_line;
 mod judge;
 pub mod laws;
 mod locations;
+mod values;
 mod word_values;
 
 pub use command_line::read_words;

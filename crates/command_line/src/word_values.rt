@@ -7,12 +7,12 @@ ghost use Rattle.command_words.specs.Locations.{location_of};
 
 use crate::checked_words::CheckedWords;
 use crate::judge::GREATEST_DEMO;
+use crate::values;
 use chunk_store::id::DigestKind;
 use command_words::command::{Command, Groups, Location, Locations};
 use command_words::location::{parts, read_location};
 use command_words::option_table::{CommandKind, OptionKind};
 use command_words::roles::Role;
-use command_words::values;
 use dsy_base::name::Name;
 use std::alloc::{AllocError, Global};
 

@@ -1,5 +1,4 @@
 pub mod OptionTable
-pub mod Values
 pub mod Locations
 pub mod Roles
 pub mod Limits

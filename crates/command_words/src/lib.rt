@@ -6,4 +6,3 @@ pub mod location;
 pub mod option_table;
 pub mod roles;
 pub mod usage;
-pub mod values;

@@ -4,12 +4,12 @@ ghost use Rattle.std.specs.Prelude.{◌≡◌, ◌<◌, ◌≤◌, ◌^◌, ◌�
 ghost use Rattle.std.specs.Prelude.{◌==◌};
 ghost use Rattle.std.specs.Path.{rfind_below};
 ghost use Rattle.std.specs.Str.{IsCharBoundary};
-ghost use Rattle.command_words.specs.Values.{with_digit, with_digits, number_up_to, number_in_word, workers_of, retries_of};
-ghost use Rattle.command_words.specs.Values.{split_at, byte_count_of};
-ghost use Rattle.command_words.specs.Values.{kib_of, sizes_of, listen_of, ends_in_caibx, is_seed, digest_of};
+ghost use Rattle.command_line.specs.Values.{with_digit, with_digits, number_up_to, number_in_word, workers_of, retries_of};
+ghost use Rattle.command_line.specs.Values.{split_at, byte_count_of};
+ghost use Rattle.command_line.specs.Values.{kib_of, sizes_of, listen_of, ends_in_caibx, is_seed, digest_of};
 
-use crate::location::is_index_url;
 use chunk_store::id::DigestKind;
+use command_words::location::is_index_url;
 
 // The number that a digit makes of the digits before it.
 fn with_digit(most: u64, n: u64, digit: u8) -> Option<u64>

@@ -1,6 +1,6 @@
 use Rattle.std.proofs.Common.{◌≡◌, ◌≤◌, drop}
-use Rattle.command_words.specs.Values.{with_digits}
-use Rattle.command_words.proofs.values.with_digits.Given as goal
+use Rattle.command_line.specs.Values.{with_digits}
+use Rattle.command_line.proofs.values.with_digits.Given as goal
 
 -- the digits that are left make of the number the number of the word
 abbrev pub invariant-loop-digit : goal.invariant-loop-digit
