@@ -1,4 +1,3 @@
-pub mod AnyWords
 pub mod Between
 pub mod Entries
 pub mod Given

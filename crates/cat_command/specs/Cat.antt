@@ -1,4 +1,4 @@
--- `cat -s STORE.. -o OFFSET -l LENGTH INDEX`. The range is the n bytes of the image from the offset `at` on.
+-- `cat -s STORE.. -e N -o OFFSET -l LENGTH INDEX`. The range is the n bytes of the image from the offset `at` on.
 use Rattle.std.specs.Prelude.{◌≡◌, ◌++◌, ℕ, ◌-◌, ◌≤◌, List, [], map, min, Option, Some, None, IfSome, Result, Ok, Err}
 use Rattle.std.specs.List.{Any, count_by}
 use Rattle.std.specs.Option.{option_map}
@@ -11,10 +11,11 @@ use Rattle.chunk_store.specs.Said.{Said}
 use Rattle.chunk_store.specs.declared.id.ChunkId.{ChunkId}
 use Rattle.command_outcome.specs.declared.outcome.Outcome.{Outcome}
 use Rattle.command_outcome.specs.declared.outcome.Outcome.TheVariants as ends
-use Rattle.command_steps.specs.Asking.{AsksOnly, EachDialed}
+use Rattle.command_groups.specs.Asking.{GroupsAsked}
+use Rattle.command_groups.specs.Groups.{group_files, stores_of}
+use Rattle.command_groups.specs.Lacking.{HaveLackedIn, group_said}
 use Rattle.command_indexes.specs.Gets.{IndexGot}
-use Rattle.command_steps.specs.Sources.{ConsultsStores, HaveLacked, OnStorage, Storage, SourcesOpened, said_at}
-use Rattle.command_steps.specs.Sources.{location_files, storage_of}
+use Rattle.command_steps.specs.Sources.{ConsultsStores, OnStorage, Storage, SourcesOpened, storage_of}
 use Rattle.command_words.specs.declared.command.Location.{Location}
 use Rattle.command_worlds.specs.Steps.{◌>>=◌}
 use Rattle.command_worlds.specs.Worlds.{OnDisk, Step, World}
@@ -42,20 +43,20 @@ kept_chunks = 8
 abbrev pub asked_times : Listing → ℕ → ℕ → List ℕ → ℕ
 asked_times l at n id = count_by (λ w. bytes_eq w.id.0 id) (missed kept_chunks [] (wants_of l at n))
 
--- P holds of the files of the stores, if all are folders that tell them
-abbrev pub IfFolders : Storage → List Location → (List (Map (List ℕ)) → Type 0) → Type 0
-IfFolders w stores P =
-    IfSome w.disk.folders (λ m. (fs : List (Map (List ℕ))) → map (location_files m) stores ≡ map Some fs → P fs)
+-- P holds of the files of the stores, if each group is one folder that tells them
+abbrev pub IfFolders : Storage → List (List Location) → (List (Map (List ℕ)) → Type 0) → Type 0
+IfFolders w groups P =
+    IfSome w.disk.folders (λ m. (fs : List (Map (List ℕ))) → map (group_files m) groups ≡ map Some fs → P fs)
 
 -- a store has shown the chunk of entry i
 abbrev pub HasShownEntry : Listing → ℕ → Said → Type 0
 HasShownEntry l i s = (b : List ℕ) × s.shown (id_of l i) b × IsChunk (kind_of l) (id_of l i) (size_of l i) b
 
-module _ (stores : List Location) (l : Listing) (at n : ℕ) (w v : World) where
+module _ (groups : List (List Location)) (retries : ℕ) (l : Listing) (at n : ℕ) (w v : World) where
   -- a store gave the chunk of entry i
   pub record IsGivenEntry (i : ℕ) : Type 0 where
-    pub shown : Any (λ s. HasShownEntry l i (said_at (storage_of w) (storage_of v) s)) stores
-    pub held : IfFolders (storage_of w) stores (λ fs. SomeGivesEntry l i (map chunks fs))
+    pub shown : Any (λ g. HasShownEntry l i (group_said (storage_of w) (storage_of v) g)) groups
+    pub held : IfFolders (storage_of w) groups (λ fs. SomeGivesEntry l i (map chunks fs))
 
   -- the first m bytes of the range were put, whose chunks the stores gave. Where these are folders that tell, they are
   -- those of the image of the stores
@@ -63,7 +64,7 @@ module _ (stores : List Location) (l : Listing) (at n : ℕ) (w v : World) where
     pub fits : m ≤ n
     pub text : List ℕ
     pub bytes : IsText l at m text
-    pub exactly : IfFolders (storage_of w) stores (λ fs. IsRange l at m (image_of_stores l (map chunks fs)) text)
+    pub exactly : IfFolders (storage_of w) groups (λ fs. IsRange l at m (image_of_stores l (map chunks fs)) text)
     pub taken : v.out.taken ≡ option_map (λ t. t ++ text) w.out.taken
     pub given : (i : ℕ) → IsCovered l at m i → IsGivenEntry i
 
@@ -72,8 +73,8 @@ module _ (stores : List Location) (l : Listing) (at n : ℕ) (w v : World) where
     pub covered : IsCovered l at n k
     pub id_is : id ≡ (want_of l k).id
     pub puts : PutsFirst (bytes_before l at k)
-    pub said : HaveLacked (chunk_at (kind_of l) l k) (storage_of w) (storage_of v) stores r
-    pub lacks : IfFolders (storage_of w) stores (λ fs. LacksAll (chunk_at (kind_of l) l k) (map chunks fs) r)
+    pub said : HaveLackedIn retries (chunk_at (kind_of l) l k) (storage_of w) (storage_of v) groups r
+    pub lacks : IfFolders (storage_of w) groups (λ fs. LacksAll (chunk_at (kind_of l) l k) (map chunks fs) r)
 
   -- how putting the range ends. Want of memory has failed no call on the output
   abbrev pub EndsRange : Result Unit Outcome → Type 0
@@ -85,21 +86,22 @@ module _ (stores : List Location) (l : Listing) (at n : ℕ) (w v : World) where
   EndsRange (Err ends.Memory) = ((m : ℕ) × PutsFirst m) × (v.out.faults ≡ w.out.faults)
   EndsRange (Err other) = ⊥
 
--- servers are asked only for chunks of covered entries, and sent fronts of such requests
-abbrev pub RangePut : List Location → Listing → ℕ → ℕ → Step World Unit
-RangePut stores l at n w r v = EndsRange stores l at n w v r
-    × ConsultsStores stores (storage_of w) (storage_of v)
-    × EachDialed (AsksOnly (asked_times l at n) (λ id. 0) (IsCoveredGet l at n)) stores w.dial.ended v.dial.ended
+-- servers are asked only for chunks of covered entries, each `retries` times more where it failed. Those of groups of
+-- one store are sent fronts of such requests alone
+abbrev pub RangePut : List (List Location) → ℕ → Listing → ℕ → ℕ → Step World Unit
+RangePut groups retries l at n w r v = EndsRange groups retries l at n w v r
+    × ConsultsStores (stores_of groups) (storage_of w) (storage_of v)
+    × GroupsAsked retries (asked_times l at n) (λ id. 0) (IsCoveredGet l at n) groups w.dial.ended v.dial.ended
     × (w.out.faults ≤ v.out.faults)
 
 -- the stores are opened before any byte is put
-abbrev pub PutFrom : List Location → Listing → ℕ → ℕ → Step World Unit
-PutFrom stores l at n = do
-  _ ← OnDisk (SourcesOpened stores)
-  RangePut stores l at n
+abbrev pub PutFrom : List (List Location) → ℕ → Listing → ℕ → ℕ → Step World Unit
+PutFrom groups retries l at n = do
+  _ ← OnDisk (SourcesOpened (stores_of groups))
+  RangePut groups retries l at n
 
 -- the range from OFFSET on is put, LENGTH bytes of it where LENGTH is given
-abbrev pub CatEnds : List Location → ℕ → Option ℕ → List ℕ → Step World Unit
-CatEnds stores offset length index = do
+abbrev pub CatEnds : List (List Location) → ℕ → ℕ → Option ℕ → List ℕ → Step World Unit
+CatEnds groups retries offset length index = do
   l ← OnStorage (IndexGot index)
-  PutFrom stores l offset (range_size l offset length)
+  PutFrom groups retries l offset (range_size l offset length)

@@ -9,7 +9,7 @@ use Rattle.chunk_store.specs.Said.{AskedOnce, KeepsOf}
 use Rattle.chunk_store.specs.declared.store.Store.{Ghosts as StoreWords}
 use Rattle.dsy_base.specs.Counts.{raised}
 use Rattle.store_group.specs.Answers.{AnswersAt, AnswersFirst, AnswersRound, AskedUpTo, FailsAll, AnswerSays, ask_for, times_for, times_other}
-use Rattle.store_group.specs.Groups.{Grouped, as_store, SomeStore, group_count, most, of_one, questions_of, group_place, said_of, sent_of}
+use Rattle.store_group.specs.Groups.{Grouped, as_store, SomeStore, asked_name, files_code, group_count, most, of_one, places_of, questions_of, said_of, sent_of, told_file_code}
 use Rattle.store_group.specs.declared.answer.Answer.{Answer}
 use Rattle.store_group.specs.declared.answer.Answer.TheVariants as answer
 use Rattle.store_group.specs.declared.answer.Question.{Question}
@@ -150,7 +150,7 @@ one_kept R tells f (s ∷ []) (x ∷ y ∷ xs) h = absurd h.1
 one_kept R tells f (s ∷ t ∷ old) (x ∷ []) h = absurd h.1
 one_kept R tells f (s ∷ t ∷ old) (x ∷ y ∷ xs) h = refl
 
-pub place_kept : {S : Type 0} (R : S → S → Type 0) (place : S → List ℕ) → ((s t : S) → R s t → place t ≡ place s) → (old xs : List S) → AllZip R old xs → group_place place xs ≡ group_place place old
+pub place_kept : {S : Type 0} (R : S → S → Type 0) (place : S → List ℕ) → ((s t : S) → R s t → place t ≡ place s) → (old xs : List S) → AllZip R old xs → places_of place xs ≡ places_of place old
 place_kept R place f [] [] h = refl
 place_kept R place f [] (x ∷ xs) h = absurd h
 place_kept R place f (s ∷ old) [] h = absurd h
@@ -175,14 +175,20 @@ module _ {S : Type 0} (store : StoreWords S) (q : Question) (n : ℕ) (id : List
     taken = λ b. some_kept Asked (λ s. (store.said s).taken x b) (λ s. (store.said s).taken x b) (λ s t r. (r.said x).taken b) old xs h;
   }
 
-  pub sent_kept : (old xs : List S) → AllZip Asked old xs → Sends (λ a. a ≡ ask_for q id) (sent_of store.sent old) (sent_of store.sent xs)
+  code_kept : (name : List ℕ) (old xs : List S) → AllZip Asked old xs → files_code store.folder xs name ≡ files_code store.folder old name
+  code_kept name [] [] h = refl
+  code_kept name [] (x ∷ xs) h = absurd h
+  code_kept name (s ∷ old) [] h = absurd h
+  code_kept name (s ∷ old) (x ∷ xs) h = λ i. told_file_code (h.0.folder i) name ++ code_kept name old xs h.1 i
+
+  pub sent_kept : (old xs : List S) → AllZip Asked old xs → Sends (λ a. a ≡ ask_for q id) (sent_of store.sent store.folder old) (sent_of store.sent store.folder xs)
   sent_kept [] [] h = record { spells = refl; ended = refl }
   sent_kept [] (x ∷ xs) h = absurd h
   sent_kept (s ∷ old) [] h = absurd h
   sent_kept (s ∷ []) (x ∷ []) h = h.0.sends
   sent_kept (s ∷ []) (x ∷ y ∷ xs) h = absurd h.1
   sent_kept (s ∷ t ∷ old) (x ∷ []) h = absurd h.1
-  sent_kept (s ∷ t ∷ old) (x ∷ y ∷ xs) h = record { spells = refl; ended = refl }
+  sent_kept (s ∷ t ∷ old) (x ∷ y ∷ xs) h = record { spells = λ i a. code_kept (asked_name a) (s ∷ t ∷ old) (x ∷ y ∷ xs) h i; ended = refl }
 
 -- ---- how often stores were asked
 
@@ -309,7 +315,7 @@ module _ {S : Type 0} (store : StoreWords S) (id : List ℕ) (g h : Grouped S) (
       record {
         holds = one_kept (Turned question.Get) store.holds (λ s t r. r.holds) g.stores h.stores turns;
         folder = one_kept (Turned question.Get) store.folder (λ s t r. r.folder) g.stores h.stores turns;
-        place = place_kept (Turned question.Get) store.place (λ s t r. r.place) g.stores h.stores turns;
+        place = ap (λ (n : ℕ). n ∷ places_of store.place h.stores) same ∙ ap (λ (l : List ℕ). g.retries ∷ l) (place_kept (Turned question.Get) store.place (λ s t r. r.place) g.stores h.stores turns);
         said = said_kept store question.Get (g.retries + 1) id g.stores h.stores turns;
         sends = sent_kept store question.Get (g.retries + 1) id g.stores h.stores turns;
         this = asked.this;
@@ -324,7 +330,7 @@ module _ {S : Type 0} (store : StoreWords S) (id : List ℕ) (g h : Grouped S) (
       record {
         holds = one_kept (Turned question.Has) store.holds (λ s t r. r.holds) g.stores h.stores turns;
         folder = one_kept (Turned question.Has) store.folder (λ s t r. r.folder) g.stores h.stores turns;
-        place = place_kept (Turned question.Has) store.place (λ s t r. r.place) g.stores h.stores turns;
+        place = ap (λ (n : ℕ). n ∷ places_of store.place h.stores) same ∙ ap (λ (l : List ℕ). g.retries ∷ l) (place_kept (Turned question.Has) store.place (λ s t r. r.place) g.stores h.stores turns);
         said = said_kept store question.Has (g.retries + 1) id g.stores h.stores turns;
         sends = sent_kept store question.Has (g.retries + 1) id g.stores h.stores turns;
         this = asked.this;

@@ -5,7 +5,7 @@ use Rattle.std.specs.Prelude.{Option, Some, None, IfSome}
 use Rattle.std.proofs.Common.{inl, inr, ap, arith, ◌∙◌}
 use Rattle.std.proofs.Math.Nat.{div-eq_of_lt}
 use Rattle.std.specs.List.{AllByRecursion, AllZip}
-use Rattle.chunk_store.specs.Asks.{Sent}
+use Rattle.chunk_store.specs.Asks.{Ask, Get, Has, Put, Sent}
 use Rattle.chunk_store.specs.Folders.{chunks}
 use Rattle.chunk_store.specs.Said.{Said, SaysMap}
 use Rattle.chunk_store.specs.declared.store.Store.{Ghosts as StoreWords}
@@ -48,11 +48,33 @@ said_of said stores = record {
   taken = λ id b. SomeStore (λ s. (said s).taken id b) stores;
 }
 
--- what one store has sent. What several send isn't told
-abbrev pub sent_of : {S : Type 0} → (S → Sent) → List S → Sent
-sent_of sent [] = record { spells = λ a. []; ended = None }
-sent_of sent (s ∷ []) = sent s
-sent_of sent (s ∷ t ∷ stores) = record { spells = λ a. []; ended = None }
+-- the name that is asked for
+abbrev pub asked_name : Ask → List ℕ
+asked_name (Get id) = id
+asked_name (Has id) = id
+asked_name (Put id b) = id
+
+-- a file that isn't there, and one that is; where files aren't told neither
+abbrev pub file_code : Option (List ℕ) → List ℕ
+file_code None = 0 ∷ []
+file_code (Some b) = 1 ∷ length b ∷ b
+
+abbrev pub told_file_code : Option (Map (List ℕ)) → List ℕ → List ℕ
+told_file_code None name = 2 ∷ []
+told_file_code (Some files) name = file_code (files name)
+
+-- what lies under the name in the folder of each store, one after the other
+abbrev pub files_code : {S : Type 0} → (S → Option (Map (List ℕ))) → List S → List ℕ → List ℕ
+files_code folder [] name = []
+files_code folder (s ∷ stores) name = told_file_code (folder s) name ++ files_code folder stores name
+
+-- what one store has sent. What several send isn't told. They spell an ask for a name by what lies under it in their
+-- folders, which no call changes
+abbrev pub sent_of : {S : Type 0} → (S → Sent) → (S → Option (Map (List ℕ))) → List S → Sent
+sent_of sent folder [] = record { spells = λ a. []; ended = None }
+sent_of sent folder (s ∷ []) = sent s
+sent_of sent folder (s ∷ t ∷ stores) =
+    record { spells = λ a. files_code folder (s ∷ t ∷ stores) (asked_name a); ended = None }
 
 -- the greatest of some numbers
 abbrev pub most : {S : Type 0} → (S → ℕ) → List S → ℕ
@@ -68,9 +90,13 @@ abbrev pub group_count : {S : Type 0} → (S → List ℕ → ℕ) → Grouped S
 group_count count g id = most (λ s. questions_of g.retries (count s id)) g.stores
 
 -- the places of the stores, each behind its length
-abbrev pub group_place : {S : Type 0} → (S → List ℕ) → List S → List ℕ
-group_place place [] = []
-group_place place (s ∷ stores) = length (place s) ∷ place s ++ group_place place stores
+abbrev pub places_of : {S : Type 0} → (S → List ℕ) → List S → List ℕ
+places_of place [] = []
+places_of place (s ∷ stores) = length (place s) ∷ place s ++ places_of place stores
+
+-- they stand behind the number of times that a call which fails is made again, which no call changes either
+abbrev pub group_place : {S : Type 0} → (S → List ℕ) → Grouped S → List ℕ
+group_place place g = g.retries ∷ places_of place g.stores
 
 -- the group as one store. It has failed where all of its stores have
 abbrev pub as_store : {S : Type 0} → StoreWords S → StoreWords (Grouped S)
@@ -78,11 +104,11 @@ as_store store = record {
   holds = λ g. of_one store.holds g.stores;
   folder = λ g. of_one store.folder g.stores;
   said = λ g. said_of store.said g.stores;
-  sent = λ g. sent_of store.sent g.stores;
+  sent = λ g. sent_of store.sent store.folder g.stores;
   asked = group_count store.asked;
   queried = group_count store.queried;
   faults = λ g. g.failed;
-  place = λ g. group_place store.place g.stores;
+  place = λ g. group_place store.place g;
   tells = false;
   never_fails = false;
   may_lack_memory = store.may_lack_memory;

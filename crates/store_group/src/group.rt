@@ -5,7 +5,7 @@ ghost use Rattle.std.specs.List.{AllZip};
 ghost use Rattle.dsy_base.specs.Counts.{raised};
 ghost use Rattle.store_group.specs.Answers.{AnswerSays, AnswersRound, AskedUpTo, FailsAll, IsAbout, answer_to_get};
 ghost use Rattle.store_group.specs.Answers.{answer_to_has};
-ghost use Rattle.store_group.specs.Groups.{AsksGroup, Grouped, as_store};
+ghost use Rattle.store_group.specs.Groups.{AsksGroup, CountsFailures, Grouped, as_store};
 
 use crate::answer::{Answer, Question};
 use crate::turns::ask_round;
@@ -84,6 +84,8 @@ impl<S: Store> Group<S> {
 
     pub fn into_stores(self) -> Vec<S>
         ensures value { result.items ≡ self.stores }
+        ensures active { self.active < length self.stores }
+        ensures counts { CountsFailures S.faults self }
     {
         let Group { stores, .. } = self;
         stores
@@ -92,6 +94,7 @@ impl<S: Store> Group<S> {
     /// The number of the store that is asked first.
     pub fn active(&self) -> usize
         ensures value { result ≡ self.now.active }
+        ensures inside { result < length self.now.stores }
     {
         self.active
     }
@@ -151,7 +154,7 @@ impl<S: Store> Store for Group<S> {
 
     ghost said = { λ g. said_of S.said g.stores };
 
-    ghost sent = { λ g. sent_of S.sent g.stores };
+    ghost sent = { λ g. sent_of S.sent S.folder g.stores };
 
     ghost asked = { λ g. group_count S.asked g };
 
@@ -159,7 +162,7 @@ impl<S: Store> Store for Group<S> {
 
     ghost faults = { λ g. g.failed };
 
-    ghost place = { λ g. group_place S.place g.stores };
+    ghost place = { λ g. group_place S.place g };
 
     ghost tells = { false };
 

@@ -1,11 +1,12 @@
--- What contracts see of the stores of a command.
-use Rattle.std.proofs.Common.{true, false}
+-- What contracts see of the stores of a command, one by one and in groups.
+use Rattle.std.proofs.Common.{false, true}
 use Rattle.chunk_store.specs.declared.store.Store.{Ghosts as StoreWords}
 use Rattle.command_steps.specs.AnyStores.{asked_in, chunks_in, place_in, said_in, source_faults, source_files, source_sent}
 use Rattle.command_steps.specs.declared.any_store.AnyStore.{AnyStore}
 use Rattle.dsy_base.specs.Links.{DialState}
 use Rattle.dsy_base.specs.declared.look.Look.{Ghosts as LookWords}
 use Rattle.http_wire.specs.declared.reply.Method.TheVariants as method
+use Rattle.store_group.specs.Groups.{Grouped, as_store}
 
 abbrev pub any_words : {L D K : Type 0} → LookWords L → (D → DialState) → StoreWords (AnyStore L D K)
 any_words look state = record {
@@ -21,3 +22,6 @@ any_words look state = record {
   never_fails = false;
   may_lack_memory = true;
 }
+
+abbrev pub group_words : {L D K : Type 0} → LookWords L → (D → DialState) → StoreWords (Grouped (AnyStore L D K))
+group_words look state = as_store (any_words look state)

@@ -1,0 +1,122 @@
+-- What groups that were given back have said of a chunk that they refused, and under which numbers.
+use Rattle.std.proofs.Common.{◌≡◌, ◌⊎◌, ◌+◌, ◌<◌, ◌≤◌, ℕ, zero, suc, List, [], ◌∷◌, ◌++◌, length, map, take, slice_index, slice_index_or, Option, Some, Bool, refl, sym, subst, arith}
+use Rattle.std.proofs.lemmas.List.{length-append}
+use Rattle.std.proofs.lemmas.List.Elements.{All-cons, All-head, All-nil, All-tail}
+use Rattle.std.specs.List.{All, zip}
+use Rattle.chunk_store.specs.Said.{KeepsOf, Said}
+use Rattle.chunk_store.specs.declared.shows.Shows.{Shows}
+use Rattle.chunk_store.specs.declared.shows.Shows.TheVariants as shows
+use Rattle.command_groups.proofs.Standing.{GroupStands, each_as, either, failed, first_as, lacked}
+use Rattle.command_groups.specs.Groups.{first_store, group_files, stores_of}
+use Rattle.command_groups.specs.Lacking.{GroupFailsFirst, GroupRose, GroupsLack, HaveLackedIn, group_said}
+use Rattle.command_groups.specs.Numbers.{IsNumbered, IsStoreOf}
+use Rattle.command_steps.proofs.Lacked.{lacks_still}
+use Rattle.command_steps.specs.Sources.{Storage, location_files}
+use Rattle.command_words.specs.declared.command.Location.{Location}
+use Rattle.dsy_base.specs.Counts.{Rose}
+use Rattle.dsy_base.specs.Maps.{Map}
+use Rattle.store_chain.proofs.Pairs.{cons_head, cons_tail}
+use Rattle.store_chain.specs.Giving.{Gives, HoldsElse, HoldsNone, LacksAll}
+use Rattle.store_chain.specs.Lists.{FirstAt}
+use Rattle.store_chain.specs.Refusals.{HasShown, Lacks, Refuses}
+use Rattle.store_chain.specs.declared.query.Query.{Query}
+use Rattle.store_chain.specs.declared.refused.Refused.{Refused}
+use Rattle.store_chain.specs.declared.refused.Refused.TheVariants as refused
+use Rattle.store_group.specs.Groups.{of_one}
+
+-- what was shown is shown still
+shown_on : (c : Query) (x : Shows) (a b : Said) → KeepsOf a b c.id.0 → HasShown c x a → HasShown c x b
+shown_on c shows.Longer a b keeps h = keeps.longer c.lent h
+shown_on c (shows.Digest x) a b keeps h = (h.0, keeps.shown h.0 h.1, h.2)
+shown_on c (shows.Length n) a b keeps h = (h.0, keeps.shown h.0 h.1, h.2)
+
+module _ {S : Type 0} (locations : S → List Location) (said : S → Said) (counted : S → ℕ) (e : ℕ) (w v : Storage) (groups : List (List Location)) where
+  abbrev Standing : S → Type 0
+  Standing = GroupStands locations said counted e w v
+
+  -- the first group that failed, where those before it lack something
+  pub group_fails_first : (lacks : Said → Type 0) (id : List ℕ) → ((a b : Said) → KeepsOf a b id → lacks a → lacks b) → (k : ℕ) (before after : List S) → length before ≡ length after → map locations after ≡ groups → All Standing after
+      → FirstAt (λ p. lacks (said p.1)) (λ p. Rose (counted p.0) (counted p.1)) (λ p. lacks (said p.1) ⊎ Rose (counted p.0) (counted p.1)) k (zip before after) → GroupFailsFirst lacks e w v k groups
+  group_fails_first lacks id grows k before after many at all h =
+      first_as locations Standing (λ p. lacks (said p.1)) (λ p. Rose (counted p.0) (counted p.1)) (λ p. lacks (said p.1) ⊎ Rose (counted p.0) (counted p.1))
+      (λ g. lacks (group_said w v g)) (GroupRose e w v) (λ g. lacks (group_said w v g) ⊎ GroupRose e w v g)
+      (lacked locations said counted e w v lacks id grows) (failed locations said counted e w v lacks id grows) (either locations said counted e w v lacks id grows) k before after groups many at all h
+
+  pub groups_lack : (lacks_memory : Bool) (c : Query) (r : Refused) (before after : List S) → length before ≡ length after → map locations after ≡ groups → All Standing after → Refuses said counted lacks_memory c before after r → GroupsLack e c w v groups r
+  groups_lack lacks_memory c refused.Missing before after many at all h =
+      each_as locations Standing (λ p. (said p.1).denied c.id.0) (λ g. (group_said w v g).denied c.id.0) (λ p s y. (s.says c.id.0).denied y) before after groups many at all h
+  groups_lack lacks_memory c (refused.Damaged k x) before after many at all h =
+      first_as locations Standing (λ p. (said p.1).denied c.id.0) (λ p. HasShown c x (said p.1)) (λ p. Lacks c (said p.1))
+      (λ g. (group_said w v g).denied c.id.0) (λ g. HasShown c x (group_said w v g)) (λ g. Lacks c (group_said w v g))
+      (λ p s y. (s.says c.id.0).denied y) (λ p s y. shown_on c x (said p.1) (group_said w v (locations p.1)) (s.says c.id.0) y)
+      (λ p s y. lacks_still c (said p.1) (group_said w v (locations p.1)) (s.says c.id.0) y) k before after groups many at all h
+  groups_lack lacks_memory c (refused.StoreFault k) before after many at all h = group_fails_first (Lacks c) c.id.0 (λ a b keeps y. lacks_still c a b keeps y) k before after many at all h
+  groups_lack lacks_memory c refused.Memory before after many at all h = tt
+
+-- ---- numbers
+
+-- the element that a list has there
+first_inside : {X : Type 0} (B A C : X → Type 0) (k : ℕ) (xs : List X) → FirstAt B A C k xs → k < length xs
+first_inside B A C k [] h = absurd h
+first_inside B A C zero (x ∷ xs) h = omega arith
+first_inside B A C (suc k) (x ∷ xs) h = let rest = first_inside B A C k xs h.1 in omega (arith, rest)
+
+module _ (e : ℕ) (c : Query) (w v : Storage) (groups : List (List Location)) where
+  pub missing_numbered : GroupsLack e c w v groups refused.Missing → HaveLackedIn e c w v groups refused.Missing
+  missing_numbered h = (refused.Missing, refl, h)
+
+  -- the active store of the group is one of its stores
+  pub damaged_is : (active : List ℕ) → ((k : ℕ) → k < length groups → slice_index active k < length (slice_index_or groups k [])) → (k : ℕ) (x : Shows) → GroupsLack e c w v groups (refused.Damaged k x)
+      → IsNumbered groups (refused.Damaged k x) (refused.Damaged (first_store groups k + slice_index active k) x)
+  damaged_is active inside k x h =
+      let at = inside k (first_inside (λ g. (group_said w v g).denied c.id.0) (λ g. HasShown c x (group_said w v g)) (λ g. Lacks c (group_said w v g)) k groups h) in
+      (first_store groups k + slice_index active k, refl, (omega arith, omega (arith, at)))
+
+  pub damaged_numbered : (active : List ℕ) → ((k : ℕ) → k < length groups → slice_index active k < length (slice_index_or groups k [])) → (k : ℕ) (x : Shows) → GroupsLack e c w v groups (refused.Damaged k x)
+      → HaveLackedIn e c w v groups (refused.Damaged (first_store groups k + slice_index active k) x)
+  damaged_numbered active inside k x h = (refused.Damaged k x, damaged_is active inside k x h, h)
+
+  pub fault_numbered : (k : ℕ) → GroupsLack e c w v groups (refused.StoreFault k) → HaveLackedIn e c w v groups (refused.StoreFault (first_store groups k))
+  fault_numbered k h = (refused.StoreFault k, refl, h)
+
+-- ---- groups of one store
+
+-- a group that tells its files is one store
+one_told : {S X : Type 0} (f : S → Option X) (x : X) (xs : List S) → of_one f xs ≡ Some x → length xs ≡ 1
+one_told f x [] told = absurd (cc)
+one_told f x (a ∷ []) told = refl
+one_told f x (a ∷ b ∷ xs) told = absurd (cc)
+
+pub told_singles : (m : Map (Map (List ℕ))) (groups : List (List Location)) (fs : List (Map (List ℕ))) → map (group_files m) groups ≡ map Some fs → All (λ g. length g ≡ 1) groups
+told_singles m [] fs told = All-nil (λ (g : List Location). length g ≡ 1)
+told_singles m (g ∷ groups) [] told = absurd (cc)
+told_singles m (g ∷ groups) (f ∷ fs) told =
+    All-cons (λ (g : List Location). length g ≡ 1) g groups (one_told (location_files m) f g (cons_head (group_files m g) (Some f) (map (group_files m) groups) (map Some fs) told))
+    (told_singles m groups fs (cons_tail (group_files m g) (Some f) (map (group_files m) groups) (map Some fs) told))
+
+-- their numbers are those of their stores
+pub first_of_singles : (groups : List (List Location)) → All (λ g. length g ≡ 1) groups → (k : ℕ) → k ≤ length groups → first_store groups k ≡ k
+first_of_singles groups single zero le = refl
+first_of_singles [] single (suc k) le = absurd (omega (arith, le))
+first_of_singles (g ∷ groups) single (suc k) le =
+    let one = All-head (λ (g : List Location). length g ≡ 1) g groups single in
+    let rest = first_of_singles groups (All-tail (λ (g : List Location). length g ≡ 1) g groups single) k (omega (arith, le)) in
+    let both : length (g ++ stores_of (take k groups)) ≡ length g + length (stores_of (take k groups)) = length-append g (stores_of (take k groups)) in
+    omega (arith, one, rest, both)
+
+store_of_single : (groups : List (List Location)) → All (λ g. length g ≡ 1) groups → (k s : ℕ) → k < length groups → IsStoreOf groups k s → s ≡ k
+store_of_single groups single k s lt h =
+    let first = first_of_singles groups single k (omega (arith, lt)) in
+    let one : length (slice_index_or groups k []) ≡ 1 = single k [] lt in
+    omega (arith, first, one, h.0, h.1)
+
+-- so what stores lack is told of them by the same number
+pub lacks_numbered : (m : Map (Map (List ℕ))) (groups : List (List Location)) (fs : List (Map (List ℕ))) → map (group_files m) groups ≡ map Some fs → (c : Query) (maps : List (Map (List ℕ))) → length maps ≡ length groups
+    → (by_group r : Refused) → IsNumbered groups by_group r → LacksAll c maps by_group → LacksAll c maps r
+lacks_numbered m groups fs told c maps many refused.Missing r is h = subst (LacksAll c maps) (sym is) h
+lacks_numbered m groups fs told c maps many (refused.Damaged k x) r is h =
+    let lt = first_inside (HoldsNone c) (HoldsElse c x) (λ y. Gives c y → ⊥) k maps h in
+    let same = store_of_single groups (told_singles m groups fs told) k is.0 (omega (arith, lt, many)) is.2 in
+    subst (LacksAll c maps) (sym is.1) (subst (λ (n : ℕ). LacksAll c maps (refused.Damaged n x)) (sym same) h)
+lacks_numbered m groups fs told c maps many (refused.StoreFault k) r is h = subst (LacksAll c maps) (sym is) tt
+lacks_numbered m groups fs told c maps many refused.Memory r is h = subst (LacksAll c maps) (sym is) tt

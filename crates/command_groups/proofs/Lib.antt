@@ -1,0 +1,10 @@
+pub mod Decoded
+pub mod Words
+pub mod Stand
+pub mod Standing
+pub mod Lacked
+pub mod Asked
+pub mod Quiet
+pub mod Flat
+pub mod Opening
+pub mod Given

@@ -1,0 +1,173 @@
+-- Groups that were asked: where they stand, how often their calls are made again, and what their folders hold.
+use Rattle.std.proofs.Common.{◌≡◌, ◌∙◌, ◌++◌, ◌+◌, ◌<◌, ◌≤◌, ℕ, zero, suc, List, [], ◌∷◌, length, map, slice_index, slice_index_or, Option, Some, None, IfSome, refl, sym, ap, arith}
+use Rattle.std.proofs.lemmas.List.{length-append, length-map}
+use Rattle.std.proofs.lemmas.List.Elements.{All-cons, All-head, All-nil, All-tail}
+use Rattle.std.specs.List.{All, AllZip}
+use Rattle.std.specs.Option.{option_map}
+use Rattle.chunk_store.specs.Asks.{Ask, Sends}
+use Rattle.chunk_store.specs.Folders.{chunks}
+use Rattle.command_groups.proofs.Decoded.{group_files_same, places_same}
+use Rattle.command_groups.specs.Groups.{AreGroups, group_files, stores_of}
+use Rattle.command_groups.specs.Opened.{IsFresh, files_in, locations_in, told_files}
+use Rattle.command_steps.proofs.Given.{stand_still}
+use Rattle.command_steps.specs.AnyStores.{chunks_in, location_in, place_in, source_files, source_sent}
+use Rattle.command_steps.specs.Sources.{location_files}
+use Rattle.command_steps.specs.declared.any_store.AnyStore.{AnyStore}
+use Rattle.command_words.specs.declared.command.Location.{Location}
+use Rattle.dsy_base.specs.Links.{DialState}
+use Rattle.dsy_base.specs.Maps.{Map}
+use Rattle.store_chain.proofs.Pairs.{cons_head, cons_tail}
+use Rattle.store_group.specs.Groups.{Grouped, group_place, of_one, places_of, sent_of}
+
+-- ---- where they stand
+
+module _ {L D K : Type 0} (place : L → List ℕ) where
+  one_stands : (g h : Grouped (AnyStore L D K)) → group_place (place_in place) g ≡ group_place (place_in place) h → locations_in place g ≡ locations_in place h
+  one_stands g h same =
+      stand_still place h.stores g.stores (places_same (place_in place) g.stores h.stores (cons_tail g.retries h.retries (places_of (place_in place) g.stores) (places_of (place_in place) h.stores) same))
+
+  -- groups whose places were kept stand where they stood
+  pub groups_stand_still : (old new : List (Grouped (AnyStore L D K))) → map (group_place (place_in place)) new ≡ map (group_place (place_in place)) old → map (locations_in place) new ≡ map (locations_in place) old
+  groups_stand_still [] [] same = refl
+  groups_stand_still [] (h ∷ new) same = absurd (cc)
+  groups_stand_still (g ∷ old) [] same = absurd (cc)
+  groups_stand_still (g ∷ old) (h ∷ new) same =
+      let place_of = group_place (place_in place) in
+      let one = one_stands h g (cons_head (place_of h) (place_of g) (map place_of new) (map place_of old) same) in
+      let others = groups_stand_still old new (cons_tail (place_of h) (place_of g) (map place_of new) (map place_of old) same) in
+      λ i. one i ∷ others i
+
+  -- and their calls are made as often again
+  pub groups_try_still : (e : ℕ) (old new : List (Grouped (AnyStore L D K))) → map (group_place (place_in place)) new ≡ map (group_place (place_in place)) old → All (λ g. g.retries ≡ e) old → All (λ g. g.retries ≡ e) new
+  groups_try_still e old [] same tries = All-nil (λ (g : Grouped (AnyStore L D K)). g.retries ≡ e)
+  groups_try_still e [] (h ∷ new) same tries = absurd (cc)
+  groups_try_still e (g ∷ old) (h ∷ new) same tries =
+      let place_of = group_place (place_in place) in
+      let one = cons_head (place_of h) (place_of g) (map place_of new) (map place_of old) same in
+      let others = cons_tail (place_of h) (place_of g) (map place_of new) (map place_of old) same in
+      let number : h.retries ≡ g.retries = cons_head h.retries g.retries (places_of (place_in place) h.stores) (places_of (place_in place) g.stores) one in
+      All-cons (λ (g : Grouped (AnyStore L D K)). g.retries ≡ e) h new (number ∙ All-head (λ (g : Grouped (AnyStore L D K)). g.retries ≡ e) g old tries) (groups_try_still e old new others (All-tail (λ (g : Grouped (AnyStore L D K)). g.retries ≡ e) g old tries))
+
+-- as many stores stand there
+pub many_stores : {L D K : Type 0} (place : L → List ℕ) (g h : Grouped (AnyStore L D K)) → locations_in place g ≡ locations_in place h → length g.stores ≡ length h.stores
+many_stores place g h same = sym (length-map g.stores (location_in place)) ∙ ap length same ∙ length-map h.stores (location_in place)
+
+pub sizes_stand : {L D K : Type 0} (place : L → List ℕ) (xs : List (Grouped (AnyStore L D K))) (groups : List (List Location)) → map (locations_in place) xs ≡ groups → map (λ g. length g.stores) xs ≡ map length groups
+sizes_stand place [] [] same = refl
+sizes_stand place [] (q ∷ groups) same = absurd (cc)
+sizes_stand place (g ∷ xs) [] same = absurd (cc)
+sizes_stand place (g ∷ xs) (q ∷ groups) same =
+    let one : length g.stores ≡ length q = sym (length-map g.stores (location_in place)) ∙ ap length (cons_head (locations_in place g) q (map (locations_in place) xs) groups same) in
+    let others = sizes_stand place xs groups (cons_tail (locations_in place g) q (map (locations_in place) xs) groups same) in
+    λ i. one i ∷ others i
+
+-- ---- what their folders hold
+
+module _ {L D K : Type 0} (place : L → List ℕ) (files : L → Option (Map (List ℕ))) (state : D → DialState) where
+  -- the files of all folders are as they were, where the groups were only asked
+  pub folders_still : (P : Ask → Type 0) (old new : List (Grouped (AnyStore L D K))) → map (locations_in place) new ≡ map (locations_in place) old → map (told_files files) new ≡ map (told_files files) old
+      → AllZip (λ a b. Sends P (sent_of (source_sent state) (source_files files) a.stores) (sent_of (source_sent state) (source_files files) b.stores)) old new
+      → map (files_in files) new ≡ map (files_in files) old
+  folders_still P [] [] same told sends = refl
+  folders_still P [] (h ∷ new) same told sends = absurd sends
+  folders_still P (g ∷ old) [] same told sends = absurd sends
+  folders_still P (g ∷ old) (h ∷ new) same told sends =
+      let stands = cons_head (locations_in place h) (locations_in place g) (map (locations_in place) new) (map (locations_in place) old) same in
+      let tells = cons_head (told_files files h) (told_files files g) (map (told_files files) new) (map (told_files files) old) told in
+      let one = group_files_same (source_files files) (source_sent state) h.stores g.stores (many_stores place h g stands) tells sends.0.spells in
+      let others = folders_still P old new (cons_tail (locations_in place h) (locations_in place g) (map (locations_in place) new) (map (locations_in place) old) same)
+      (cons_tail (told_files files h) (told_files files g) (map (told_files files) new) (map (told_files files) old) told) sends.1 in
+      λ i. one i ∷ others i
+
+-- ---- what a group of one tells
+
+of_one_map : {S X : Type 0} (f : S → Option X) (xs : List S) → of_one f xs ≡ of_one (λ (o : Option X). o) (map f xs)
+of_one_map f [] = refl
+of_one_map f (x ∷ []) = refl
+of_one_map f (x ∷ y ∷ xs) = refl
+
+one_alike : {S T X : Type 0} (f : S → Option X) (h : T → Option X) (xs : List S) (ys : List T) → map f xs ≡ map h ys → of_one f xs ≡ of_one h ys
+one_alike f h xs ys same = of_one_map f xs ∙ ap (of_one (λ o. o)) same ∙ sym (of_one_map h ys)
+
+module _ {L D K : Type 0} (files : L → Option (Map (List ℕ))) where
+  told_in : (m : Map (Map (List ℕ))) (xs : List (Grouped (AnyStore L D K))) (groups : List (List Location)) → map (files_in files) xs ≡ map (map (location_files m)) groups → map (told_files files) xs ≡ map (group_files m) groups
+  told_in m [] [] same = refl
+  told_in m [] (q ∷ groups) same = absurd (cc)
+  told_in m (g ∷ xs) [] same = absurd (cc)
+  told_in m (g ∷ xs) (q ∷ groups) same =
+      let one = one_alike (source_files files) (location_files m) g.stores q (cons_head (files_in files g) (map (location_files m) q) (map (files_in files) xs) (map (map (location_files m)) groups) same) in
+      let others = told_in m xs groups (cons_tail (files_in files g) (map (location_files m) q) (map (files_in files) xs) (map (map (location_files m)) groups) same) in
+      λ i. one i ∷ others i
+
+  -- what was found of the folders, the groups tell
+  pub groups_tell : (folders : Option (Map (Map (List ℕ)))) (xs : List (Grouped (AnyStore L D K))) (groups : List (List Location)) → IfSome folders (λ m. map (files_in files) xs ≡ map (map (location_files m)) groups)
+      → IfSome folders (λ m. map (told_files files) xs ≡ map (group_files m) groups)
+  groups_tell None xs groups found = tt
+  groups_tell (Some m) xs groups found = told_in m xs groups found
+
+  -- it stands still
+  pub found_after : (folders : Option (Map (Map (List ℕ)))) (before after : List (Grouped (AnyStore L D K))) (groups : List (List Location)) → map (files_in files) after ≡ map (files_in files) before
+      → IfSome folders (λ m. map (files_in files) before ≡ map (map (location_files m)) groups) → IfSome folders (λ m. map (files_in files) after ≡ map (map (location_files m)) groups)
+  found_after None before after groups kept found = tt
+  found_after (Some m) before after groups kept found = kept ∙ found
+
+  -- a group holds the chunks of the files that it tells
+  one_holds : (xs : List (AnyStore L D K)) → of_one (chunks_in files) xs ≡ option_map chunks (of_one (source_files files) xs)
+  one_holds [] = refl
+  one_holds (x ∷ []) = refl
+  one_holds (x ∷ y ∷ xs) = refl
+
+  pub groups_hold : (xs : List (Grouped (AnyStore L D K))) (fs : List (Map (List ℕ))) → map (told_files files) xs ≡ map Some fs → map (λ g. of_one (chunks_in files) g.stores) xs ≡ map Some (map chunks fs)
+  groups_hold [] [] told = refl
+  groups_hold [] (f ∷ fs) told = absurd (cc)
+  groups_hold (g ∷ xs) [] told = absurd (cc)
+  groups_hold (g ∷ xs) (f ∷ fs) told =
+      let one : of_one (chunks_in files) g.stores ≡ Some (chunks f) = one_holds g.stores ∙ ap (option_map chunks) (cons_head (told_files files g) (Some f) (map (told_files files) xs) (map Some fs) told) in
+      let others = groups_hold xs fs (cons_tail (told_files files g) (Some f) (map (told_files files) xs) (map Some fs) told) in
+      λ i. one i ∷ others i
+
+-- ---- groups that were just made
+
+pub fresh_tries : {S : Type 0} (counted : S → ℕ) (e : ℕ) (xs : List (Grouped S)) → All (IsFresh counted e) xs → All (λ g. g.retries ≡ e) xs
+fresh_tries counted e xs fresh = λ k d lt. (fresh k d lt).retries
+
+-- none has failed
+pub fresh_counts : {S X : Type 0} (counted : S → ℕ) (e : ℕ) (xs : List (Grouped S)) (names : List X) → length xs ≡ length names → All (IsFresh counted e) xs → map (λ g. g.failed) xs ≡ map (λ q. 0) names
+fresh_counts counted e [] [] many fresh = refl
+fresh_counts counted e [] (q ∷ names) many fresh = absurd (cc)
+fresh_counts counted e (g ∷ xs) [] many fresh = absurd (cc)
+fresh_counts counted e (g ∷ xs) (q ∷ names) many fresh =
+    let one = (All-head (IsFresh counted e) g xs fresh).failed in
+    let others = fresh_counts counted e xs names (cc) (All-tail (IsFresh counted e) g xs fresh) in
+    λ i. one i ∷ others i
+
+-- ---- how many they are
+
+few_groups : (groups : List (List Location)) → All (λ g. 1 ≤ length g) groups → length groups ≤ length (stores_of groups)
+few_groups [] each = omega arith
+few_groups (g ∷ groups) each =
+    let one = All-head (λ (g : List Location). 1 ≤ length g) g groups each in
+    let rest = few_groups groups (All-tail (λ (g : List Location). 1 ≤ length g) g groups each) in
+    let both : length (g ++ stores_of groups) ≡ length g + length (stores_of groups) = length-append g (stores_of groups) in
+    omega (arith, one, rest, both)
+
+-- as many groups were opened as are named
+pub groups_many : {S : Type 0} (locations : S → List Location) (groups : List (List Location)) (retries : ℕ) (items : List S) → map locations items ≡ groups → AreGroups groups retries → (1 ≤ length items) × (length items ≤ 16)
+groups_many locations groups retries items same are =
+    let many : length items ≡ length groups = sym (length-map items locations) ∙ ap length same in
+    let few = few_groups groups are.each in
+    (omega (arith, many, are.some), omega (arith, many, few, are.few))
+
+-- the number of each group's active store is inside the group
+pub active_inside : {L D K : Type 0} (place : L → List ℕ) (xs : List (Grouped (AnyStore L D K))) (groups : List (List Location)) → map (locations_in place) xs ≡ groups → All (λ g. g.active < length g.stores) xs
+    → (k : ℕ) → k < length groups → slice_index (map (λ g. g.active) xs) k < length (slice_index_or groups k [])
+active_inside place [] groups same inside k lt =
+    let none : length groups ≡ 0 = ap length (sym same) in
+    absurd (omega (arith, lt, none))
+active_inside {L} {D} {K} place (g ∷ xs) [] same inside k lt = absurd (cc)
+active_inside {L} {D} {K} place (g ∷ xs) (q ∷ groups) same inside zero lt =
+    let one : length g.stores ≡ length q = sym (length-map g.stores (location_in place)) ∙ ap length (cons_head (locations_in place g) q (map (locations_in place) xs) groups same) in
+    let at = All-head (λ (h : Grouped (AnyStore L D K)). h.active < length h.stores) g xs inside in
+    omega (arith, one, at)
+active_inside {L} {D} {K} place (g ∷ xs) (q ∷ groups) same inside (suc k) lt =
+    active_inside place xs groups (cons_tail (locations_in place g) q (map (locations_in place) xs) groups same) (All-tail (λ (h : Grouped (AnyStore L D K)). h.active < length h.stores) g xs inside) k (omega (arith, lt))

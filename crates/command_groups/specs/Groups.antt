@@ -1,0 +1,27 @@
+-- What words name as groups of stores. The stores of a group are meant to hold the same chunks.
+use Rattle.std.specs.Prelude.{◌++◌, ℕ, ◌≤◌, List, [], ◌∷◌, length, take, Option}
+use Rattle.std.specs.List.{All}
+use Rattle.command_steps.specs.Sources.{location_files}
+use Rattle.command_words.specs.declared.command.Location.{Location}
+use Rattle.dsy_base.specs.Maps.{Map}
+use Rattle.store_group.specs.Groups.{of_one}
+
+-- the stores of all groups, in order
+abbrev pub stores_of : List (List Location) → List Location
+stores_of [] = []
+stores_of (g ∷ groups) = g ++ stores_of groups
+
+-- the number of the first store of a group, over all groups
+abbrev pub first_store : List (List Location) → ℕ → ℕ
+first_store groups k = length (stores_of (take k groups))
+
+-- there is a group, each has a store, and all together have at most 16. A call that fails is made at most 16 times more
+pub record AreGroups (groups : List (List Location)) (retries : ℕ) : Type 0 where
+  pub some : 1 ≤ length groups
+  pub each : All (λ (g : List Location). 1 ≤ length g) groups
+  pub few : length (stores_of groups) ≤ 16
+  pub again : retries ≤ 16
+
+-- a group of one folder tells its files; no other group does
+abbrev pub group_files : Map (Map (List ℕ)) → List Location → Option (Map (List ℕ))
+group_files m g = of_one (location_files m) g

@@ -1,0 +1,5 @@
+pub mod Groups
+pub mod Opened
+pub mod Lacking
+pub mod Numbers
+pub mod Asking
