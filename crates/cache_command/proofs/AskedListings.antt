@@ -118,8 +118,8 @@ module _ {S : Type 0} (store : StoreWords S) where
 
 -- ---- by fewer workers than there may be
 
-pub more_workers : (stores : List Location) (cache : List ℕ) (few most : ℕ) (indexes : List (List ℕ)) (w v : Storage) (r : Result Unit Outcome) → max 1 few ≤ max 1 most → FilledBetween stores cache few indexes w v r → FilledBetween stores cache most indexes w v r
-more_workers stores cache few most indexes w v r less h = record {
+pub more_workers : (groups : List (List Location)) (again : ℕ) (cache : List ℕ) (few most : ℕ) (indexes : List (List ℕ)) (w v : Storage) (r : Result Unit Outcome) → max 1 few ≤ max 1 most → FilledBetween groups again cache few indexes w v r → FilledBetween groups again cache most indexes w v r
+more_workers groups again cache few most indexes w v r less h = record {
   held = h.held;
   was = h.was;
   now = h.now;

@@ -1,6 +1,7 @@
 -- Filling a cache by indexes in order: what one of them comes to, from one to the next, and what stands when all is given
 -- back.
-use Rattle.std.proofs.Common.{◌≡◌, ◌⊎◌, ℕ, ◌≤◌, List, [], ◌∷◌, All, map, Option, Some, None, IfSome, IsSomeAnd, Result, Ok, Err, IfErr, refl, sym, subst, ap, ◌∙◌, inl, inr, arith, slice_index_or, ◌&&◌, Bool, true, false, IsTrue}
+use Rattle.std.proofs.Common.{◌≡◌, ◌⊎◌, ℕ, ◌≤◌, List, [], ◌∷◌, All, length, map, Option, Some, None, IfSome, IsSomeAnd, Result, Ok, Err, IfErr, refl, sym, subst, ap, ◌∙◌, inl, inr, arith, slice_index_or, ◌&&◌, Bool, true, false, IsTrue}
+use Rattle.std.proofs.lemmas.List.{length-map}
 use Rattle.std.specs.Map.{count_at}
 use Rattle.std.specs.Option.{option_map}
 use Rattle.cache_store.proofs.Stocked.{stocks_weaker}
@@ -8,41 +9,51 @@ use Rattle.cache_store.specs.Shelves.{Shelf, Stocks, held_on}
 use Rattle.caibx_codec.specs.Asks.{IsListedGet}
 use Rattle.caibx_codec.specs.Listing.{Listing}
 use Rattle.chunk_store.specs.Folders.{chunks}
-use Rattle.chunk_store.specs.Said.{Said}
 use Rattle.chunk_store.specs.declared.id.ChunkId.{ChunkId}
 use Rattle.chunk_store.specs.declared.store.Store.{Ghosts as StoreWords}
+use Rattle.command_groups.proofs.Given.{group_given_earlier}
+use Rattle.command_groups.proofs.Lacked.{groups_lack}
+use Rattle.command_groups.proofs.Quiet.{groups_quiet}
+use Rattle.command_groups.proofs.Stand.{active_inside, found_after, fresh_counts, groups_tell}
+use Rattle.command_groups.proofs.Standing.{Standing, all_groups_stand}
+use Rattle.command_groups.proofs.Words.{group_words}
+use Rattle.command_groups.specs.Groups.{group_files, stores_of}
+use Rattle.command_groups.specs.Lacking.{HaveLackedIn}
+use Rattle.command_groups.specs.Numbers.{answer_of_stores}
+use Rattle.command_groups.specs.Opened.{IsFresh, IsGroupGiven, files_in, locations_in, told_files}
 use Rattle.command_outcome.specs.declared.outcome.Outcome.{Outcome}
 use Rattle.command_words.specs.declared.command.Location.{Location}
 use Rattle.command_steps.proofs.Cached.{given_adds}
 use Rattle.command_steps.proofs.Dialed.{dials_twice}
-use Rattle.command_steps.proofs.Given.{Stands, all_stand, folders_quiet, given_earlier}
 use Rattle.command_steps.proofs.Numbers.{given_quiet, given_rose, rose_later, rose_longer}
-use Rattle.command_steps.specs.AnyStores.{IsGiven, source_faults, source_files, location_in, said_in}
+use Rattle.command_steps.specs.AnyStores.{said_in, source_faults}
 use Rattle.command_steps.specs.Cache.{CacheGiven, CacheOpened, with_cache}
 use Rattle.command_indexes.proofs.Spelled.{IsPart, not_spelled_wider, spells_wider}
 use Rattle.command_indexes.specs.Places.{are_files}
-use Rattle.command_indexes.specs.Spelled.{IndexSpells}
+use Rattle.command_indexes.specs.Spelled.{IndexSpells, NotSpelled}
 use Rattle.command_steps.specs.Stores.{are_folders}
 use Rattle.command_steps.specs.Sources.{ConsultsStores, Storage, SourcesOpened, storage, location_files}
 use Rattle.command_worlds.specs.Steps.{outcome_of}
 use Rattle.command_worlds.specs.Worlds.{Adds, DiskQuiet, FolderRose, Reads, world}
 use Rattle.command_steps.specs.declared.any_store.AnyStore.{AnyStore}
 use Rattle.command_steps.proofs.Taken.{at_name_twice}
-use Rattle.command_steps.proofs.Found.{held_after}
-use Rattle.command_steps.proofs.Lacked.{have_lacked, same_length}
-use Rattle.cache_command.specs.Caching.{AddsListed, AllFilled, CacheEnds, EndsFilling, Evidence, FillExactly, FillTells, FilledBetween, FillsEach, IndexFilled, IsHeldListed, IsNotHad, NotFilled, StopsFilling, answer_of_fill, of_calls, of_command, outcome_of_fill, GetsListed}
+use Rattle.command_steps.proofs.Lacked.{same_length}
+use Rattle.cache_command.proofs.Renumbered.{IsAnswerAs, IsFaultAs, IsOutcomeAs, IsSame, IsTold, fault_as, filled_as, fills_as, memory_as, same_answer, spelled_as, told_answer, told_lack, told_maps}
+use Rattle.cache_command.specs.Caching.{HoldsFirst, AddsListed, AllFilled, CacheEnds, EndsFilling, Evidence, FillExactly, FillTells, FilledBetween, FillsEach, IndexFilled, IsHeldListed, IsNotHad, NotFilled, StopsFilling, answer_of_fill, of_calls, of_command, outcome_of_fill, GetsListed}
 use Rattle.dsy_base.proofs.Counts.{at_same}
 use Rattle.dsy_base.specs.Counts.{Quiet, Rose}
 use Rattle.dsy_base.specs.Disk.{Disk, Output}
 use Rattle.dsy_base.specs.Links.{DialState}
 use Rattle.dsy_base.specs.Maps.{Map, at_name}
+use Rattle.dsy_base.specs.declared.look.Look.{Ghosts as LookWords}
 use Rattle.image_store.specs.PutChunks.{IsListedId as IsAmong}
 use Rattle.store_chain.specs.Chains.{Chained, KeepsStores}
 use Rattle.store_chain.specs.Faults.{EachQuiet, NoneFalls}
-use Rattle.store_chain.specs.Refusals.{Refuses}
+use Rattle.store_chain.specs.Giving.{LacksAll}
 use Rattle.store_chain.specs.declared.refused.Refused.{Refused}
 use Rattle.store_chain.specs.declared.refused.Refused.TheVariants as refused
 use Rattle.store_chain.specs.declared.query.Query.{Query}
+use Rattle.store_group.specs.Groups.{Grouped, said_of}
 use Rattle.cache_fill.proofs.Holding.{each_within, quiet_within}
 use Rattle.cache_fill.specs.Filling.{EntryFails, FillEnds, FillStops, FillsBy, GivesEntry, HoldsTo, FillUnfailed, RefusesEntry, MayFillCache, entry_want, filled_to}
 use Rattle.cache_fill.specs.declared.fill.FillFault.{FillFault}
@@ -61,10 +72,28 @@ both_true false b t = absurd (cc)
 
 -- ---- by one index
 
-module _ {S : Type 0} (store : StoreWords S) (files : S → Option (Map (List ℕ))) (l : Listing) (s0 s1 : Shelf) (c0 c1 : Chained S)
-    (kept : KeepsStores store (IsListedGet l) c0.stores c1.stores) (maps_of : (fs : List (Map (List ℕ))) → map files c0.stores ≡ map Some fs → map store.holds c0.stores ≡ map Some (map chunks fs)) (lacks : store.may_lack_memory ≡ true) where
+-- what stores hold lies in their folders, where these tell
+holds_of : (holds : Option (Map (List ℕ))) (folder : Option (Map (List ℕ))) (f : Map (List ℕ)) → folder ≡ Some f → IfSome folder (λ m. holds ≡ Some (chunks m)) → holds ≡ Some (chunks f)
+holds_of holds folder f is lies = of_told folder (λ m. holds ≡ Some (chunks m)) f is lies
+
+module _ {S : Type 0} (store : StoreWords S) (lies : (s : S) → IfSome (store.folder s) (λ m. store.holds s ≡ Some (chunks m))) (l : Listing) (s0 s1 : Shelf) (c0 c1 : Chained S)
+    (kept : KeepsStores store (IsListedGet l) c0.stores c1.stores) where
   abbrev Calls : Evidence
-  Calls = of_calls files store.said store.faults c0.stores c1.stores s0.faults s1.faults
+  Calls = of_calls store c0.stores c1.stores s0.faults s1.faults
+
+  all_hold : (xs : List S) (fs : List (Map (List ℕ))) → map store.folder xs ≡ map Some fs → map store.holds xs ≡ map Some (map chunks fs)
+  all_hold [] [] told = refl
+  all_hold [] (f ∷ fs) told = absurd (cc)
+  all_hold (s ∷ xs) [] told = absurd (cc)
+  all_hold (s ∷ xs) (f ∷ fs) told =
+      let here : store.folder s ≡ Some f = cc in
+      let rest : map store.folder xs ≡ map Some fs = cc in
+      let one = holds_of (store.holds s) (store.folder s) f here (lies s) in
+      let others = all_hold xs fs rest in
+      λ i. one i ∷ others i
+
+  maps_of : (fs : List (Map (List ℕ))) → map store.folder c0.stores ≡ map Some fs → map store.holds c0.stores ≡ map Some (map chunks fs)
+  maps_of fs told = all_hold c0.stores fs told
 
   held_listed : (q b : List ℕ) → MayFillCache store.holds l c0.stores q b → IsHeldListed Calls l q b
   held_listed q b (listed, some) = (listed, λ fs told. some (map chunks fs) (maps_of fs told))
@@ -85,7 +114,7 @@ module _ {S : Type 0} (store : StoreWords S) (files : S → Option (Map (List �
       id_is = e.id_is;
       cache = if_told (option_map chunks s1.files) (λ m. GivesEntry l h.entry m → Rose s0.faults s1.faults)
           (λ m is gives. rose_later s0.faults h.shelf.faults s1.faults h.before.stocks.never_falls (of_told (held_on h.shelf) (λ m. GivesEntry l h.entry m → Rose h.shelf.faults s1.faults) m (ap (option_map chunks) (sym e.kept) ∙ is) e.unfound gives));
-      said = (h.chain.stores, same_length store.place h.chain.stores c1.stores (h.before.stores.places ∙ sym kept.places), subst (λ b. Refuses store.said store.faults b (entry_want l h.entry id) h.chain.stores c1.stores r) lacks e.refused);
+      said = (h.chain.stores, same_length store.place h.chain.stores c1.stores (h.before.stores.places ∙ sym kept.places), e.refused);
       lacks = λ fs told. e.lacks (map chunks fs) (h.before.stores.held ∙ maps_of fs told);
     }
 
@@ -144,29 +173,35 @@ module _ (a b : Evidence) (held : (fs : List (Map (List ℕ))) → b.holds fs �
   pub done_wider : (l : Listing) (x y : Option (Map (List ℕ))) → IndexFilled a l x y (Ok tt) → IndexFilled b l x y (Ok tt)
   done_wider l x y h = record { added = added_wider l x y h.added; holds = h.holds; exactly = exactly_wider l x (Ok tt) h.exactly; order = tt }
 
-  module _ (refuse : (c : Query) (r : Refused) → a.refused c r → b.refused c r) (cache : a.cache_failed → b.cache_failed) where
-    lost_wider : (l : Listing) (y : Option (Map (List ℕ))) (k : ℕ) (id : ChunkId) (r : Refused) → IsNotHad a l y k id r → IsNotHad b l y k id r
-    lost_wider l y k id r h = record {
+  -- what the one refuses for a reason, the other refuses for another one, which names a store by another number
+  module _ (N : Refused → Refused → Type 0) (refuse : (c : Query) (r n : Refused) → N r n → a.refused c r → b.refused c n) (none : N refused.Missing refused.Missing)
+      (lack : (fs : List (Map (List ℕ))) → b.holds fs → (c : Query) (r n : Refused) → N r n → LacksAll c (map chunks fs) r → LacksAll c (map chunks fs) n) (cache : a.cache_failed → b.cache_failed) where
+    lost_wider : (l : Listing) (y : Option (Map (List ℕ))) (k : ℕ) (id : ChunkId) (r n : Refused) → N r n → IsNotHad a l y k id r → IsNotHad b l y k id n
+    lost_wider l y k id r n is h = record {
       id_is = h.id_is;
-      cache = if_told (option_map chunks y) (λ m. GivesEntry l k m → b.cache_failed) (λ m is gives. cache (of_told (option_map chunks y) (λ m. GivesEntry l k m → a.cache_failed) m is h.cache gives));
-      said = refuse _ r h.said;
-      lacks = λ fs told. h.lacks fs (held fs told);
+      cache = if_told (option_map chunks y) (λ m. GivesEntry l k m → b.cache_failed) (λ m held_is gives. cache (of_told (option_map chunks y) (λ m. GivesEntry l k m → a.cache_failed) m held_is h.cache gives));
+      said = refuse _ r n is h.said;
+      lacks = λ fs told. lack fs told (entry_want l k id) r n is (h.lacks fs (held fs told));
     }
 
-    tells_wider : (l : Listing) (y : Option (Map (List ℕ))) (k : ℕ) (fault : FillFault) → FillTells a l y k fault → FillTells b l y k fault
-    tells_wider l y k (faults.Missing e id) h = (h.0, lost_wider l y k id refused.Missing h.1)
-    tells_wider l y k (faults.Damaged e id s x) h = (h.0, lost_wider l y k id (refused.Damaged s x) h.1)
-    tells_wider l y k (faults.StoreFault s) h = (h.0, lost_wider l y k h.0 (refused.StoreFault s) h.1)
-    tells_wider l y k faults.CacheFault h = (cache h.0, λ fs told. h.1 fs (held fs told))
-    tells_wider l y k faults.Memory h = tt
+    tells_wider : (l : Listing) (y : Option (Map (List ℕ))) (k : ℕ) (f g : FillFault) → IsFaultAs N f g → FillTells a l y k f → FillTells b l y k g
+    tells_wider l y k (faults.Missing e id) g is h = subst (FillTells b l y k) (sym is) (h.0, lost_wider l y k id refused.Missing refused.Missing none h.1)
+    tells_wider l y k (faults.Damaged e id s x) g (t, is, named) h = subst (FillTells b l y k) (sym named) (h.0, lost_wider l y k id (refused.Damaged s x) (refused.Damaged t x) is h.1)
+    tells_wider l y k (faults.StoreFault s) g (t, is, named) h = subst (FillTells b l y k) (sym named) (h.0, lost_wider l y k h.0 (refused.StoreFault s) (refused.StoreFault t) is h.1)
+    tells_wider l y k faults.CacheFault g is h = subst (FillTells b l y k) (sym is) (cache h.0, λ fs told. h.1 fs (held fs told))
+    tells_wider l y k faults.Memory g is h = subst (FillTells b l y k) (sym is) tt
 
-    order_wider : (l : Listing) (x y : Option (Map (List ℕ))) (r : Result Unit FillFault) → IfErr r (λ fault. EndsFilling a l fault x y) → IfErr r (λ fault. EndsFilling b l fault x y)
-    order_wider l x y (Ok u) h = tt
-    order_wider l x y (Err fault) (inl none) = inl none
-    order_wider l x y (Err fault) (inr h) = inr (record { entry = h.entry; listed = h.listed; holds = h.holds; others = h.others; tells = tells_wider l y h.entry fault h.tells })
+    ends_wider : (l : Listing) (x y : Option (Map (List ℕ))) (f g : FillFault) → IsFaultAs N f g → EndsFilling a l f x y → EndsFilling b l g x y
+    ends_wider l x y f g is (inl early) = inl (memory_as N f g early.0 is, early.1)
+    ends_wider l x y f g is (inr h) = inr (record { entry = h.entry; listed = h.listed; holds = h.holds; others = h.others; tells = tells_wider l y h.entry f g is h.tells })
 
-    index_wider : (l : Listing) (x y : Option (Map (List ℕ))) (r : Result Unit FillFault) → IndexFilled a l x y r → IndexFilled b l x y r
-    index_wider l x y r h = record { added = added_wider l x y h.added; holds = h.holds; exactly = exactly_wider l x r h.exactly; order = order_wider l x y r h.order }
+    index_wider : (l : Listing) (x y : Option (Map (List ℕ))) (f g : FillFault) → IsFaultAs N f g → IndexFilled a l x y (Err f) → IndexFilled b l x y (Err g)
+    index_wider l x y f g is h = record {
+      added = added_wider l x y h.added;
+      holds = subst (λ (k : ℕ). HoldsFirst l k y) (filled_as N l f g is) h.holds;
+      exactly = λ fs told still. if_told (option_map chunks x) _ (λ m held_is sizes. fills_as N l m (map chunks fs) f g is (of_told (option_map chunks x) _ m held_is (h.exactly fs (held fs told) (quiet fs told still)) sizes));
+      order = ends_wider l x y f g is h.order;
+    }
 
     -- over a part of a command
     module _ (w0 v0 w v : Storage) (part : IsPart w w0 v0 v) where
@@ -174,15 +209,17 @@ module _ (a b : Evidence) (held : (fs : List (Map (List ℕ))) → b.holds fs �
       all_wider [] x y h = h
       all_wider (q ∷ indexes) x y (l, listed, z, filled, rest) = (l, spells_wider w w0 v0 v part q l listed, z, done_wider l x z filled, all_wider indexes z y rest)
 
-      none_wider : (indexes : List (List ℕ)) (x y : Option (Map (List ℕ))) (o : Outcome) → NotFilled a w0 v0 indexes x y o → NotFilled b w v indexes x y o
-      none_wider [] x y o h = absurd h
-      none_wider (q ∷ indexes) x y o (inl h) = inl (not_spelled_wider w w0 v0 v part q o h.0, h.1)
-      none_wider (q ∷ indexes) x y o (inr (l, listed, inl (fault, is, filled))) = inr (l, spells_wider w w0 v0 v part q l listed, inl (fault, is, index_wider l x y (Err fault) filled))
-      none_wider (q ∷ indexes) x y o (inr (l, listed, inr (z, filled, rest))) = inr (l, spells_wider w w0 v0 v part q l listed, inr (z, done_wider l x z filled, none_wider indexes z y o rest))
+      none_wider : (indexes : List (List ℕ)) (x y : Option (Map (List ℕ))) (o p : Outcome) → IsOutcomeAs N o p → NotFilled a w0 v0 indexes x y o → NotFilled b w v indexes x y p
+      none_wider [] x y o p named h = absurd h
+      none_wider (q ∷ indexes) x y o p named (inl h) = inl (subst (NotSpelled w v q) (spelled_as N w0 v0 q o p named h.0) (not_spelled_wider w w0 v0 v part q o h.0), h.1)
+      none_wider (q ∷ indexes) x y o p named (inr (l, listed, inl (fault, is, filled))) =
+          let other = fault_as N fault o p is named in
+          inr (l, spells_wider w w0 v0 v part q l listed, inl (other.0, other.1, index_wider l x y fault other.0 other.2 filled))
+      none_wider (q ∷ indexes) x y o p named (inr (l, listed, inr (z, filled, rest))) = inr (l, spells_wider w w0 v0 v part q l listed, inr (z, done_wider l x z filled, none_wider indexes z y o p named rest))
 
-      pub fills_wider : (indexes : List (List ℕ)) (x y : Option (Map (List ℕ))) (r : Result Unit Outcome) → FillsEach a w0 v0 indexes x y r → FillsEach b w v indexes x y r
-      fills_wider indexes x y (Ok u) h = all_wider indexes x y h
-      fills_wider indexes x y (Err o) h = none_wider indexes x y o h
+      pub fills_wider : (indexes : List (List ℕ)) (x y : Option (Map (List ℕ))) (r s : Result Unit Outcome) → IsAnswerAs N r s → FillsEach a w0 v0 indexes x y r → FillsEach b w v indexes x y s
+      fills_wider indexes x y (Ok u) s is h = subst (FillsEach b w v indexes x y) (sym is) (all_wider indexes x y h)
+      fills_wider indexes x y (Err o) s (p, is, named) h = subst (FillsEach b w v indexes x y) (sym is) (none_wider indexes x y o p named h)
 
 -- the first index filled, and then the rest
 fills_next : (over : Evidence) (w v : Storage) (q : List ℕ) (indexes : List (List ℕ)) (l : Listing) (x z y : Option (Map (List ℕ))) (r : Result Unit Outcome)
@@ -192,8 +229,11 @@ fills_next over w v q indexes l x z y (Err o) listed filled rest = inr (l, liste
 
 -- the call for the first index, and the calls for the rest. The cache's count of faults goes from m0 to m1 to m2, and the
 -- stores from c0 to c1 to c2
-module _ {S : Type 0} (files : S → Option (Map (List ℕ))) (said : S → Said) (counted : S → ℕ) (m0 m1 m2 : ℕ) (c0 c1 c2 : List S) (below : m0 ≤ m1) (above : m1 ≤ m2) (same : map files c1 ≡ map files c0)
-    (fell : NoneFalls (map counted c0) (map counted c1)) (falls : NoneFalls (map counted c1) (map counted c2)) (w u v : Storage) (part : IsPart w u v v) where
+module _ {S : Type 0} (store : StoreWords S) (m0 m1 m2 : ℕ) (c0 c1 c2 : List S) (below : m0 ≤ m1) (above : m1 ≤ m2) (same : map store.folder c1 ≡ map store.folder c0)
+    (fell : NoneFalls (map store.faults c0) (map store.faults c1)) (falls : NoneFalls (map store.faults c1) (map store.faults c2)) (w u v : Storage) (part : IsPart w u v v) where
+  abbrev counted : S → ℕ
+  counted = store.faults
+
   abbrev Still : ℕ → ℕ → List S → List S → Type 0
   Still m n old new = Quiet m n × EachQuiet (map counted old) (map counted new)
 
@@ -204,19 +244,19 @@ module _ {S : Type 0} (files : S → Option (Map (List ℕ))) (said : S → Said
   still_next quiet = (quiet_within m0 m1 m2 m2 below (omega arith) quiet.0, each_within (map counted c0) (map counted c1) (map counted c2) (map counted c2) fell (λ k. omega arith) quiet.1)
 
   abbrev first : Evidence
-  first = of_calls files said counted c0 c1 m0 m1
+  first = of_calls store c0 c1 m0 m1
 
   abbrev next : Evidence
-  next = of_calls files said counted c1 c2 m1 m2
+  next = of_calls store c1 c2 m1 m2
 
   abbrev all : Evidence
-  all = of_calls files said counted c0 c2 m0 m2
+  all = of_calls store c0 c2 m0 m2
 
   pub fills_on : (q : List ℕ) (indexes : List (List ℕ)) (l : Listing) (x z y : Option (Map (List ℕ))) (r : Result Unit Outcome) → IndexSpells w v q l → IndexFilled first l x z (Ok tt) → FillsEach next u v indexes z y r → FillsEach all w v (q ∷ indexes) x y r
   fills_on q indexes l x z y r listed filled rest =
       fills_next all w v q indexes l x z y r listed
       (done_wider first all (λ fs told. told) (λ fs told quiet. still_first quiet) l x z filled)
-      (fills_wider next all (λ fs told. same ∙ told) (λ fs told quiet. still_next quiet) (λ c r h. h) (rose_later m0 m1 m2 below) u v w v part indexes z y r rest)
+      (fills_wider next all (λ fs told. same ∙ told) (λ fs told quiet. still_next quiet) IsSame (λ c x n is h. subst (next.refused c) (sym is) h) refl (λ fs told c x n is h. subst (LacksAll c (map chunks fs)) (sym is) h) (rose_later m0 m1 m2 below) u v w v part indexes z y r r (same_answer r) rest)
 
 -- how filling by an index was answered
 pub fill_stopped : (over : Evidence) (l : Listing) (x y : Option (Map (List ℕ))) (r : Result Unit FillFault) (o : Outcome) → answer_of_fill r ≡ Err o → IndexFilled over l x y r
@@ -230,18 +270,18 @@ fill_passed over l x y (Err fault) u is filled = absurd (cc)
 
 -- ---- the command
 
-pub cache_ends : (stores : List Location) (cache : List ℕ) (most : ℕ) (indexes : List (List ℕ)) (k j : DialState) (p : Output) (b c d e : Disk) (r : Result Unit Outcome)
-    → SourcesOpened stores b (Ok tt) c → CacheOpened stores (Some cache) c (Ok tt) d → FilledBetween stores cache most indexes (storage d k) (storage e j) r → CacheEnds stores cache most indexes (world b k p) r (world e j p)
-cache_ends stores cache most indexes k j p b c d e (Ok u) opened taken filled =
+pub cache_ends : (groups : List (List Location)) (again : ℕ) (cache : List ℕ) (most : ℕ) (indexes : List (List ℕ)) (k j : DialState) (p : Output) (b c d e : Disk) (r : Result Unit Outcome)
+    → SourcesOpened (stores_of groups) b (Ok tt) c → CacheOpened (stores_of groups) (Some cache) c (Ok tt) d → FilledBetween groups again cache most indexes (storage d k) (storage e j) r → CacheEnds groups again cache most indexes (world b k p) r (world e j p)
+cache_ends groups again cache most indexes k j p b c d e (Ok u) opened taken filled =
     record { disk = c; dial = k; out = p; gave = tt; did = (opened, refl, refl); then = record { disk = d; dial = k; out = p; gave = tt; did = (taken, refl, refl); then = (filled, refl) } }
-cache_ends stores cache most indexes k j p b c d e (Err o) opened taken filled =
+cache_ends groups again cache most indexes k j p b c d e (Err o) opened taken filled =
     inr (record { disk = c; dial = k; out = p; gave = tt; did = (opened, refl, refl); then = inr (record { disk = d; dial = k; out = p; gave = tt; did = (taken, refl, refl); then = (filled, refl) }) })
 
 -- the stores weren't opened, or then the folder of the cache wasn't reached
-pub not_reached : (stores : List Location) (cache : List ℕ) (most : ℕ) (indexes : List (List ℕ)) (k : DialState) (p : Output) (b e : Disk) (o : Outcome) → SourcesOpened stores b (Err o) e ⊎ ((m : Disk) × SourcesOpened stores b (Ok tt) m × CacheOpened stores (Some cache) m (Err o) e)
-    → CacheEnds stores cache most indexes (world b k p) (Err o) (world e k p)
-not_reached stores cache most indexes k p b e o (inl none) = inl (none, refl, refl)
-not_reached stores cache most indexes k p b e o (inr (m, opened, none)) = inr (record { disk = m; dial = k; out = p; gave = tt; did = (opened, refl, refl); then = inl (none, refl, refl) })
+pub not_reached : (groups : List (List Location)) (again : ℕ) (cache : List ℕ) (most : ℕ) (indexes : List (List ℕ)) (k : DialState) (p : Output) (b e : Disk) (o : Outcome)
+    → SourcesOpened (stores_of groups) b (Err o) e ⊎ ((m : Disk) × SourcesOpened (stores_of groups) b (Ok tt) m × CacheOpened (stores_of groups) (Some cache) m (Err o) e) → CacheEnds groups again cache most indexes (world b k p) (Err o) (world e k p)
+not_reached groups again cache most indexes k p b e o (inl none) = inl (none, refl, refl)
+not_reached groups again cache most indexes k p b e o (inr (m, opened, none)) = inr (record { disk = m; dial = k; out = p; gave = tt; did = (opened, refl, refl); then = inl (none, refl, refl) })
 
 -- ---- when all is given back
 
@@ -254,17 +294,19 @@ was_put : (o : Option (Map (Map (List ℕ)))) (q : List ℕ) (x : Option (Map (L
 was_put None q x = tt
 was_put (Some m) q x = at_same m q x
 
-held_so : (o : Option (Map (Map (List ℕ)))) (names : List Location) (xs : List (Option (Map (List ℕ)))) (fs : List (Map (List ℕ))) → IfSome o (λ n. xs ≡ map (location_files n) names) → IsSomeAnd o (λ n. map (location_files n) names ≡ map Some fs) → xs ≡ map Some fs
+held_so : (o : Option (Map (Map (List ℕ)))) (names : List (List Location)) (xs : List (Option (Map (List ℕ)))) (fs : List (Map (List ℕ))) → IfSome o (λ n. xs ≡ map (group_files n) names) → IsSomeAnd o (λ n. map (group_files n) names ≡ map Some fs) → xs ≡ map Some fs
 held_so None names xs fs found told = absurd told
 held_so (Some n) names xs fs found told = found ∙ told
 
--- the disk was read while the cache was filled, which was s and became t; then its folder was given back, and the stores
-module _ {L D K : Type 0} (files : L → Option (Map (List ℕ))) (place : L → List ℕ) (faults : L → ℕ) (state : D → DialState) (cache : List ℕ) (s t : Shelf)
-    (d0 b c e : Disk) (i k j : DialState) (names : List Location) (before after : List (AnyStore L D K))
-    (s_is : s.place ≡ cache) (t_is : t.place ≡ cache) (reads : Reads d0 b) (gives : CacheGiven (Some t) b c) (closes : ConsultsStores names (storage c k) (storage e j))
-    (fresh : map (source_faults faults state) before ≡ map (λ q. 0) names) (located : map (location_in place) after ≡ names) (same : map (source_files files) after ≡ map (source_files files) before)
-    (found : IfSome (with_cache (Some s) d0).folders (λ m. map (source_files files) before ≡ map (location_files m) names))
-    (gained : All (IsGiven place faults state (storage c k) (storage e j)) after)
+-- the disk was read while the cache was filled, which was s and became t; then its folder was given back, and the groups
+-- of stores
+module _ {L D K : Type 0} (look : LookWords L) (state : D → DialState) (again : ℕ) (cache : List ℕ) (s t : Shelf)
+    (d0 b c e : Disk) (i k j : DialState) (names : List (List Location)) (before after : List (Grouped (AnyStore L D K)))
+    (s_is : s.place ≡ cache) (t_is : t.place ≡ cache) (reads : Reads d0 b) (gives : CacheGiven (Some t) b c) (closes : ConsultsStores (stores_of names) (storage c k) (storage e j))
+    (fresh : All (IsFresh (source_faults look.faults state) again) before) (located : map (locations_in look.place) after ≡ names) (tries : All (λ g. g.retries ≡ again) after)
+    (same : map (files_in look.files) after ≡ map (files_in look.files) before) (told_same : map (told_files look.files) after ≡ map (told_files look.files) before)
+    (found : IfSome (with_cache (Some s) d0).folders (λ m. map (files_in look.files) before ≡ map (map (location_files m)) names))
+    (gained : All (IsGroupGiven look.place look.faults state (storage c k) (storage e j)) after)
     (part : IsPart (storage (with_cache (Some s) d0) i) (storage d0 i) (storage b k) (storage e j)) where
   abbrev d : Disk
   d = with_cache (Some s) d0
@@ -278,6 +320,10 @@ module _ {L D K : Type 0} (files : L → Option (Map (List ℕ))) (place : L →
   gave : Adds b c
   gave = given_adds (Some t) b c gives
 
+  -- as many groups as before
+  many : length before ≡ length names
+  many = sym (length-map before (told_files look.files)) ∙ ap length (sym told_same) ∙ length-map after (told_files look.files) ∙ sym (length-map after (locations_in look.place)) ∙ ap length located
+
   opened : (q : List ℕ) → count_at d.folder_counts q ≤ count_at c.folder_counts q
   opened q = omega (arith, reads.folder_counts q, gave.folder_counts q)
 
@@ -290,11 +336,11 @@ module _ {L D K : Type 0} (files : L → Option (Map (List ℕ))) (place : L →
     folder_known = λ q is. closes.0.disk.folder_known q (gave.folder_known q (reads.folder_known q is));
   }
 
-  given_all : All (IsGiven place faults state w v) after
-  given_all = λ n q lt. given_earlier place faults state w (storage c k) v opened part.during closes.0.dial (slice_index_or after n q) (gained n q lt)
+  given_all : All (IsGroupGiven look.place look.faults state w v) after
+  given_all = λ n g lt. group_given_earlier look.place look.faults state w (storage c k) v opened part.during closes.0.dial (slice_index_or after n g) (gained n g lt)
 
-  stand : All (Stands (location_in place) (said_in files state) (source_faults faults state) w v) after
-  stand = all_stand files place faults state w v after names located (held_after d.folders names (source_files files) before after found same) given_all
+  stand : All (Standing look.files look.place look.faults state again w v) after
+  stand = all_groups_stand look.files look.place look.faults state again w v after names located (found_after look.files d.folders before after names same found) tries given_all
 
   cache_at : Rose 0 t.faults → FolderRose d e t.place
   cache_at rose =
@@ -304,12 +350,15 @@ module _ {L D K : Type 0} (files : L → Option (Map (List ℕ))) (place : L →
   cache_failed : Rose 0 t.faults → FolderRose d e cache
   cache_failed rose = subst (λ (q : List ℕ). FolderRose d e q) t_is (cache_at rose)
 
-  none_failed : (fs : List (Map (List ℕ))) → (of_command w v names cache).holds fs → DiskQuiet d e → Quiet 0 t.faults × EachQuiet (map (source_faults faults state) before) (map (source_faults faults state) after)
+  held : (fs : List (Map (List ℕ))) → (of_command again w v names cache).holds fs → map (told_files look.files) before ≡ map Some fs
+  held fs told = held_so d.folders names (map (told_files look.files) before) fs (groups_tell look.files d.folders before names found) told
+
+  none_failed : (fs : List (Map (List ℕ))) → (of_command again w v names cache).holds fs → DiskQuiet d e → Quiet 0 t.faults × EachQuiet (map (λ g. g.failed) before) (map (λ g. g.failed) after)
   none_failed fs told quiet =
       let here = quiet.folders t.place in
       let between : Quiet (count_at d.folder_counts t.place) (count_at c.folder_counts t.place) = record { same = omega (arith, here.same, closes.0.disk.folder_counts t.place); below = omega (arith, here.below, closes.0.disk.folder_counts t.place) } in (
         given_quiet (count_at d.folder_counts t.place) (count_at b.folder_counts t.place) (count_at c.folder_counts t.place) t.faults (reads.folder_counts t.place) gives.1.folder_counts.added between,
-        folders_quiet files place faults state w v names fs before after fresh (same ∙ held_so d.folders names (map (source_files files) before) fs found told) given_all quiet.folders,
+        groups_quiet look.files look.place look.faults state w v names fs before after (fresh_counts (source_faults look.faults state) again before names many fresh) (told_same ∙ held fs told) given_all quiet.folders,
       )
 
   back : e.folders ≡ option_map (λ (m : Map (Map (List ℕ))). at_name m cache t.files) d.folders
@@ -317,19 +366,26 @@ module _ {L D K : Type 0} (files : L → Option (Map (List ℕ))) (place : L →
       ∙ ap (λ (q : List ℕ). option_map (λ (m : Map (Map (List ℕ))). at_name m q t.files) d0.folders) (t_is ∙ sym s_is) ∙ put_twice d0.folders s.place s.files t.files
       ∙ ap (λ (q : List ℕ). option_map (λ (m : Map (Map (List ℕ))). at_name m q t.files) d.folders) s_is
 
-  pub filled_between : (most : ℕ) (indexes : List (List ℕ)) (r : Result Unit Outcome) → FillsEach (of_calls (source_files files) (said_in files state) (source_faults faults state) before after 0 t.faults) (storage d0 i) (storage b k) indexes s.files t.files r
-      → (IsTrue (are_files indexes) → k ≡ i) → GetsListed w v most indexes names → FilledBetween names cache most indexes w v r
+  abbrev active : List ℕ
+  active = map (λ g. g.active) after
+
+  refuse : (c : Query) (r n : Refused) → IsTold names active r n → (of_calls (group_words look state) before after 0 t.faults).refused c r → HaveLackedIn again c w v names n
+  refuse c r n is h =
+      told_lack names active (active_inside look.place after names located (λ n g lt. (given_all n g lt).active)) again w v c r n is
+      (groups_lack (locations_in look.place) (λ g. said_of (said_in look.files state) g.stores) (λ g. g.failed) again w v names true c r h.0 after h.1 located stand h.2)
+
+  pub filled_between : (most : ℕ) (indexes : List (List ℕ)) (r : Result Unit Outcome) → FillsEach (of_calls (group_words look state) before after 0 t.faults) (storage d0 i) (storage b k) indexes s.files t.files r
+      → (IsTrue (are_files indexes) → k ≡ i) → GetsListed w v again most indexes names → FilledBetween names again cache most indexes w v (answer_of_stores names active r)
   filled_between most indexes r h undialed gets = record {
     held = s.files;
     was = subst (λ (q : List ℕ). IfSome d.folders (λ m. m q ≡ s.files)) s_is (was_put d0.folders s.place s.files);
     now = t.files;
-    filled = fills_wider (of_calls (source_files files) (said_in files state) (source_faults faults state) before after 0 t.faults) (of_command w v names cache)
-        (λ fs told. held_so d.folders names (map (source_files files) before) fs found told) none_failed
-        (λ c r h. have_lacked (location_in place) (said_in files state) (source_faults faults state) true w v names c r h.0 after h.1 located stand h.2) cache_failed
-        (storage d0 i) (storage b k) w v part indexes s.files t.files r h;
+    filled = fills_wider (of_calls (group_words look state) before after 0 t.faults) (of_command again w v names cache) held none_failed
+        (IsTold names active) refuse refl (λ fs told c r n is lacks. told_maps names active (active_inside look.place after names located (λ n g lt. (given_all n g lt).active)) d.folders fs told c r n is lacks) cache_failed
+        (storage d0 i) (storage b k) w v part indexes s.files t.files r (answer_of_stores names active r) (told_answer names active r) h;
     back = back;
     adds = all_adds;
     dials = dials_twice i k j part.during closes.0.dial;
-    undialed = λ both. let each = both_true (are_folders names) (are_files indexes) both in closes.1 each.0 ∙ undialed each.1;
+    undialed = λ both. let each = both_true (are_folders (stores_of names)) (are_files indexes) both in closes.1 each.0 ∙ undialed each.1;
     asks = gets;
   }

@@ -1,3 +1,4 @@
+pub mod Renumbered
 pub mod CacheFilled
 pub mod AskedListings
 pub mod LentChains

@@ -1,6 +1,7 @@
--- `cache -s STORE.. -c CACHE INDEX..`. A name is its bytes; files are a folder's, where they are told.
+-- `cache -s STORE.. -e RETRIES -c CACHE INDEX..`, over groups of stores. A name is its bytes; files are a folder's, where
+-- they are told.
 use Rattle.std.specs.Prelude.{◌≡◌, ◌⊎◌, ◌&&◌, ℕ, ◌+◌, ◌<◌, ◌≤◌, List, [], ◌∷◌, length, map, max}
-use Rattle.std.specs.Prelude.{Option, Some, IfSome, IfErr, IsSomeAnd, IsTrue, true, is_some, Result, Ok, Err}
+use Rattle.std.specs.Prelude.{Option, Some, IfSome, IfErr, IsSomeAnd, IsTrue, is_some, Result, Ok, Err}
 use Rattle.std.specs.List.{AllZip, Any}
 use Rattle.std.specs.Option.{option_map}
 use Rattle.cache_store.specs.Giving.{GiveOneSize, SomeGives}
@@ -9,16 +10,19 @@ use Rattle.caibx_codec.specs.Listing.{Listing, count_of, id_of, kind_of, size_of
 use Rattle.chunk_store.specs.Asks.{Ask}
 use Rattle.chunk_store.specs.Folders.{chunks}
 use Rattle.chunk_store.specs.Giving.{IsChunk}
-use Rattle.chunk_store.specs.Said.{Said}
 use Rattle.chunk_store.specs.declared.id.ChunkId.{ChunkId}
+use Rattle.chunk_store.specs.declared.store.Store.{Ghosts as StoreWords}
+use Rattle.command_groups.specs.Asking.{WorkersGroupsDialed, with_retries}
+use Rattle.command_groups.specs.Groups.{group_files, stores_of}
+use Rattle.command_groups.specs.Lacking.{HaveLackedIn}
 use Rattle.command_outcome.specs.declared.outcome.Outcome.{Outcome}
 use Rattle.command_outcome.specs.declared.outcome.Outcome.TheVariants as ends
 use Rattle.command_indexes.specs.Places.{are_files}
 use Rattle.command_indexes.specs.Spelled.{AsksInTurn, NotSpelled, IndexSpells}
-use Rattle.command_steps.specs.Asking.{AsksOnly, WorkersDialed}
+use Rattle.command_steps.specs.Asking.{Asks, AsksOnly}
 use Rattle.command_steps.specs.Cache.{CacheOpened}
 use Rattle.command_steps.specs.Dials.{Dials}
-use Rattle.command_steps.specs.Sources.{HaveLacked, OnStorage, SourcesOpened, Storage, location_files}
+use Rattle.command_steps.specs.Sources.{OnStorage, SourcesOpened, Storage}
 use Rattle.command_steps.specs.Stores.{are_folders}
 use Rattle.command_worlds.specs.Steps.{◌>>=◌}
 use Rattle.command_worlds.specs.Worlds.{Adds, DiskQuiet, FolderRose, OnDisk, Step, World}
@@ -50,23 +54,23 @@ pub record Evidence : Type 1 where
   pub cache_failed : Type 0
   pub unfailed : Type 0
 
--- over a command, from w to v, whose stores and cache these are
-abbrev pub of_command : Storage → Storage → List Location → List ℕ → Evidence
-of_command w v stores cache = record {
-  holds = λ fs. IsSomeAnd w.disk.folders (λ n. map (location_files n) stores ≡ map Some fs);
-  refused = λ c r. HaveLacked c w v stores r;
+-- over a command, from w to v, whose groups of stores and cache these are. Each call that fails is made e times more
+abbrev pub of_command : ℕ → Storage → Storage → List (List Location) → List ℕ → Evidence
+of_command e w v groups cache = record {
+  holds = λ fs. IsSomeAnd w.disk.folders (λ n. map (group_files n) groups ≡ map Some fs);
+  refused = λ c r. HaveLackedIn e c w v groups r;
   cache_failed = FolderRose w.disk v.disk cache;
   unfailed = DiskQuiet w.disk v.disk;
 }
 
 -- over calls that led from the stores `before` to those `after`, and the count of the cache's faults from m to n
-abbrev pub of_calls : {S : Type 0} → (S → Option (Map (List ℕ))) → (S → Said) → (S → ℕ)
-    → List S → List S → ℕ → ℕ → Evidence
-of_calls {S} files said counted before after m n = record {
-  holds = λ fs. map files before ≡ map Some fs;
-  refused = λ c r. (asked : List S) × (length asked ≡ length after) × Refuses said counted true c asked after r;
+abbrev pub of_calls : {S : Type 0} → StoreWords S → List S → List S → ℕ → ℕ → Evidence
+of_calls {S} store before after m n = record {
+  holds = λ fs. map store.folder before ≡ map Some fs;
+  refused = λ c r. (asked : List S) × (length asked ≡ length after)
+      × Refuses store.said store.faults store.may_lack_memory c asked after r;
   cache_failed = Rose m n;
-  unfailed = Quiet m n × EachQuiet (map counted before) (map counted after);
+  unfailed = Quiet m n × EachQuiet (map store.faults before) (map store.faults after);
 }
 
 -- the first k listed chunks are among the files
@@ -182,9 +186,10 @@ IsGetAmong [] a = ⊥
 IsGetAmong (l ∷ ls) a = IsListedGet l a ⊎ IsGetAmong ls a
 
 -- the URLs among the indexes were asked for in order. Up to `most` workers, or one, asked the servers of chunks. Each
--- asked each server for the chunk of an id at most once for each entry that lists it, and never whether it has one, and
--- nothing else was sent but fronts of such requests
-pub record GetsListed (w v : Storage) (most : ℕ) (indexes : List (List ℕ)) (stores : List Location) : Type 0 where
+-- asked each server for the chunk of an id at most once for each entry that lists it, and e times more where it failed,
+-- and never whether it has one. Nothing else was sent to a server that is a group by itself but fronts of such requests
+pub record GetsListed (w v : Storage) (e most : ℕ) (indexes : List (List ℕ)) (groups : List (List Location))
+    : Type 0 where
   pub listings : List Listing
   pub read : FrontSpelled w v indexes listings
   -- what had ended when the indexes were had
@@ -193,34 +198,35 @@ pub record GetsListed (w v : Storage) (most : ℕ) (indexes : List (List ℕ)) (
   pub workers : ℕ
   pub some : 1 ≤ workers
   pub few : workers ≤ max 1 most
-  pub gets : WorkersDialed (λ n. AsksOnly (listed_times listings) (λ id. 0) (IsGetAmong listings)) workers stores
-      ended v.dial.ended
+  pub gets : WorkersGroupsDialed
+      (λ n. AsksOnly (with_retries e (listed_times listings)) (with_retries e (λ id. 0)) (IsGetAmong listings))
+      (λ n. Asks (with_retries e (listed_times listings)) (with_retries e (λ id. 0))) workers groups ended v.dial.ended
 
 -- ---- the command
 
 -- the cache's folder was filled by each index, and given back with other files; no other folder has changed
-pub record FilledBetween (stores : List Location) (cache : List ℕ) (most : ℕ) (indexes : List (List ℕ)) (w v : Storage)
-    (r : Result Unit Outcome) : Type 0 where
+pub record FilledBetween (groups : List (List Location)) (e : ℕ) (cache : List ℕ) (most : ℕ) (indexes : List (List ℕ))
+    (w v : Storage) (r : Result Unit Outcome) : Type 0 where
   pub held : Option (Map (List ℕ))
   pub was : IfSome w.disk.folders (λ m. m cache ≡ held)
   pub now : Option (Map (List ℕ))
-  pub filled : FillsEach (of_command w v stores cache) w v indexes held now r
+  pub filled : FillsEach (of_command e w v groups cache) w v indexes held now r
   pub back : v.disk.folders ≡ option_map (λ m. at_name m cache now) w.disk.folders
   pub adds : Adds w.disk v.disk
   pub dials : Dials w.dial v.dial
   -- where all stores are folders, and all indexes files, no server was asked
-  pub undialed : IsTrue (are_folders stores && are_files indexes) → v.dial ≡ w.dial
-  pub asks : GetsListed w v most indexes stores
+  pub undialed : IsTrue (are_folders (stores_of groups) && are_files indexes) → v.dial ≡ w.dial
+  pub asks : GetsListed w v e most indexes groups
 
-abbrev pub IndexesFilled : List Location → List ℕ → ℕ → List (List ℕ) → Step Storage Unit
-IndexesFilled stores cache most indexes w r v = FilledBetween stores cache most indexes w v r
+abbrev pub IndexesFilled : List (List Location) → ℕ → List ℕ → ℕ → List (List ℕ) → Step Storage Unit
+IndexesFilled groups e cache most indexes w r v = FilledBetween groups e cache most indexes w v r
 
 -- while the cache is used its folder counts as there. Up to `most` workers ask the stores
-abbrev pub CacheEnds : List Location → List ℕ → ℕ → List (List ℕ) → Step World Unit
-CacheEnds stores cache most indexes = do
-  _ ← OnDisk (SourcesOpened stores)
-  _ ← OnDisk (CacheOpened stores (Some cache))
-  OnStorage (IndexesFilled stores cache most indexes)
+abbrev pub CacheEnds : List (List Location) → ℕ → List ℕ → ℕ → List (List ℕ) → Step World Unit
+CacheEnds groups e cache most indexes = do
+  _ ← OnDisk (SourcesOpened (stores_of groups))
+  _ ← OnDisk (CacheOpened (stores_of groups) (Some cache))
+  OnStorage (IndexesFilled groups e cache most indexes)
 
 -- the index lists the id, under which bytes of that name stand, by the index's kind of digest
 abbrev pub HoldsListed : Map (List ℕ) → List ℕ → Listing → Type 0

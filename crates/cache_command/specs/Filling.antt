@@ -5,11 +5,12 @@ use Rattle.cache_command.specs.Caching.{IsGetAmong, listed_times}
 use Rattle.cache_store.specs.Shelves.{Shelf}
 use Rattle.caibx_codec.specs.Listing.{Listing}
 use Rattle.chunk_store.specs.declared.store.Store.{Ghosts as StoreWords}
+use Rattle.command_groups.specs.Opened.{AreUnused, IsFresh, files_in}
 use Rattle.command_indexes.specs.Places.{are_files}
 use Rattle.command_indexes.specs.Spelled.{AsksInTurn}
-use Rattle.command_steps.specs.AnyStores.{IsUnused, source_faults, source_files}
+use Rattle.command_steps.specs.AnyStores.{source_faults}
 use Rattle.command_steps.specs.Cache.{with_cache}
-use Rattle.cache_command.specs.Chains.{CanGiveChain, chain_stores}
+use Rattle.cache_command.specs.Chains.{CanGiveChain, chain_groups}
 use Rattle.command_steps.specs.Dials.{Dials}
 use Rattle.command_steps.specs.Sources.{Storage, location_files}
 use Rattle.command_steps.specs.declared.any_store.AnyStore.{AnyStore}
@@ -18,6 +19,7 @@ use Rattle.dsy_base.specs.Disk.{Disk}
 use Rattle.dsy_base.specs.Links.{DialState}
 use Rattle.dsy_base.specs.declared.look.Look.{Ghosts as LookWords}
 use Rattle.store_chain.specs.Chains.{Chained, KeepsStores}
+use Rattle.store_group.specs.Groups.{Grouped}
 
 module _ {S : Type 0} (store : StoreWords S) where
   -- the further workers' stores hold what the first worker's hold
@@ -32,18 +34,18 @@ module _ {S : Type 0} (store : StoreWords S) where
     pub heads : map store.queried d.stores ≡ map store.queried c.stores
     pub keeps : KeepsStores store (IsGetAmong ls) c.stores d.stores
 
--- a cache's folder was taken, and the stores were opened for the first worker and the further ones: nothing was asked
--- and nothing has failed yet, and all of it can be given back
-pub record JustOpened {L D K : Type 0} (look : LookWords L) (state : D → DialState)
-    (store : StoreWords (AnyStore L D K)) (d : Disk) (cache : List ℕ) (s : Shelf) (first : Chained (AnyStore L D K))
-    (further : List (Chained (AnyStore L D K))) : Type 0 where
-  pub unused : All (λ c. All (IsUnused state) c.stores) (first ∷ further)
+-- a cache's folder was taken, and the groups of stores were opened for the first worker and the further ones: nothing
+-- was asked and nothing has failed yet, and all of it can be given back
+pub record JustOpened {L D K : Type 0} (look : LookWords L) (state : D → DialState) (retries : ℕ)
+    (store : StoreWords (Grouped (AnyStore L D K))) (d : Disk) (cache : List ℕ) (s : Shelf)
+    (first : Chained (Grouped (AnyStore L D K))) (further : List (Chained (Grouped (AnyStore L D K)))) : Type 0 where
+  pub unused : All (λ c. All (AreUnused state) c.stores) (first ∷ further)
+  pub fresh : All (λ c. All (IsFresh (source_faults look.faults state) retries) c.stores) (first ∷ further)
   pub given : All (CanGiveChain look d) (first ∷ further)
-  pub located : All (λ c. chain_stores look c ≡ chain_stores look first) further
+  pub located : All (λ c. chain_groups look c ≡ chain_groups look first) further
   pub alike : HoldAlike store first further
-  pub fresh : map (source_faults look.faults state) first.stores ≡ map (λ q. 0) (chain_stores look first)
   pub found : IfSome (with_cache (Some s) d).folders (λ m.
-      map (source_files look.files) first.stores ≡ map (location_files m) (chain_stores look first))
+      map (files_in look.files) first.stores ≡ map (map (location_files m)) (chain_groups look first))
   pub cache_named : s.place ≡ cache
   pub cache_known : IsSome (d.folder_counts cache)
   pub cache_fresh : s.faults ≡ 0

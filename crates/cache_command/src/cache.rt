@@ -1,15 +1,15 @@
-//! `cache -s STORE.. -c CACHE -n WORKERS INDEX..`: CACHE holds each chunk that the indexes list, with chunks from 1 to
-//! 16 stores.
+//! `cache -s STORE.. -e RETRIES -c CACHE -n WORKERS INDEX..`: CACHE holds each chunk that the indexes list, with chunks
+//! from 1 to 16 stores, which may stand in groups.
 
 ghost use Rattle.std.specs.Prelude.{◌≡◌, ◌⊎◌, ℕ, List, ◌+◌, ◌-◌, ◌≤◌, ◌∷◌, length, All, IfOk, IfErr, Ok, Err, Some};
 ghost use Rattle.std.specs.List.{AllZip};
 ghost use Rattle.cache_command.specs.Caching.{CacheEnds, FillsEach, FrontSpelled, IndexesFilled, of_calls};
+ghost use Rattle.cache_command.specs.Chains.{chain_groups};
 ghost use Rattle.cache_command.specs.Filling.{AreHad, AsksListings, HoldAlike, JustOpened};
 ghost use Rattle.cache_store.specs.Shelves.{shelf_of};
 ghost use Rattle.caibx_codec.specs.Listing.{Listing};
-ghost use Rattle.command_steps.specs.AnyStores.{said_in, source_faults, source_files};
+ghost use Rattle.command_groups.specs.Groups.{AreGroups, stores_of};
 ghost use Rattle.command_steps.specs.Cache.{CacheOpened, with_cache};
-ghost use Rattle.cache_command.specs.Chains.{chain_stores};
 ghost use Rattle.command_steps.specs.Sources.{SourcesOpened, storage};
 ghost use Rattle.command_words.specs.Locations.{NamesIndex};
 ghost use Rattle.command_worlds.specs.Worlds.{world};
@@ -19,12 +19,13 @@ use crate::chains::{close_chains, drop_chains, open_chains};
 use crate::filling::{Filling, fill_by, filling_of};
 use chunk_store::id::DigestKind;
 use chunk_store::store::Store;
+use command_groups::groups::{close_groups, drop_groups, open_groups};
+use command_groups::numbers::numbered;
 use command_indexes::load::load_index;
 use command_outcome::outcome::Outcome;
 use command_steps::any_store::AnyStore;
 use command_steps::cache::{give_shelf, take_shelf};
-use command_steps::sources::{close_sources, drop_sources, open_sources};
-use command_words::command::{Location, Locations, Names};
+use command_words::command::{Groups, Locations, Names};
 use dsy_base::dial::Dial;
 use dsy_base::files::Files;
 use dsy_base::folder::Folder;
@@ -33,27 +34,33 @@ use dsy_base::look::Look;
 use dsy_base::name::Name;
 use std::alloc::Global;
 use std::thread::Threads;
+use store_group::group::Group;
+
+/// The words of a `cache`.
+#[derive(Drop)]
+pub struct CacheWords {
+    pub stores: Groups,
+    /// How often a call that fails is made again.
+    pub retries: u32,
+    pub cache: Name,
+    /// How many workers ask the stores, at most.
+    pub workers: u32,
+    pub indexes: Names,
+}
 
 // Reads the rest of the indexes in their order, and fills the cache by each.
 #[tactic(auto, using(crate::proofs::Had::first_named))]
-fn fill_each<R: Threads + Sync, F: Files, D: Dial + Send>(
+fn fill_each<R: Threads + Sync, F: Files, D: Dial, S: Store + Send>(
     rt: &R,
     alloc: Global,
     files: &mut F,
     dial: &mut D,
     indexes: &[Name],
-    filling: Filling<F::Folder, AnyStore<F::Look, D>>,
-) -> (
-    Filling<F::Folder, AnyStore<F::Look, D>>,
-    Result<(), Outcome>,
-)
-where
-    F::Look: Send,
-    D::Link: Send,
-    requires alike { HoldAlike ⟦<AnyStore<F::Look, D> as Store>⟧ filling.cached.chain filling.further.items }
+    filling: Filling<F::Folder, S>,
+) -> (Filling<F::Folder, S>, Result<(), Outcome>)
+    requires alike { HoldAlike S.Store filling.cached.chain filling.further.items }
     requires named { All NamesIndex indexes.now }
-    ensures filled { FillsEach (of_calls (source_files F.Look.files) (said_in F.Look.files D.state)
-        (source_faults F.Look.faults D.state) filling.cached.chain.stores result.0.cached.chain.stores
+    ensures filled { FillsEach (of_calls S.Store filling.cached.chain.stores result.0.cached.chain.stores
         (F.Folder.faults filling.cached.shelf.folder) (F.Folder.faults result.0.cached.shelf.folder))
         (storage (F.disk files.old) (D.state dial.old)) (storage (F.disk files.new) (D.state dial.new)) indexes.now
         (F.Folder.files filling.cached.shelf.folder) (F.Folder.files result.0.cached.shelf.folder) result.1 }
@@ -62,7 +69,7 @@ where
     ensures asks { (ls : List Listing)
         × FrontSpelled (storage (F.disk files.old) (D.state dial.old)) (storage (F.disk files.new) (D.state dial.new))
         indexes.now ls
-        × AllZip (AsksListings ⟦<AnyStore<F::Look, D> as Store>⟧ ls)
+        × AllZip (AsksListings S.Store ls)
         (filling.cached.chain ∷ filling.further.items) (result.0.cached.chain ∷ result.0.further.items) }
     ensures place { F.Folder.place result.0.cached.shelf.folder ≡ F.Folder.place filling.cached.shelf.folder }
     ensures never_falls { F.Folder.faults filling.cached.shelf.folder
@@ -85,39 +92,40 @@ where
     }
 }
 
-// Opens the stores in their order, for the first worker and then for the others, and takes the folder of the cache. No
-// index was read yet, so its kind isn't known: filling by an index makes cache and chains anew.
+// Opens the groups of stores in their order, for the first worker and then for the others, and takes the folder of the
+// cache. No index was read yet, so its kind isn't known: filling by an index makes cache and chains anew.
 fn reach<F: ImageFiles, D: Dial>(
     alloc: Global,
     files: &mut F,
     dial: &D,
-    stores: &[Location],
+    groups: &[Locations],
+    retries: u32,
     cache: &str,
     workers: u32,
-) -> Result<Filling<F::Folder, AnyStore<F::Look, D>>, Outcome>
-    requires size { (1 ≤ length stores.now) × (length stores.now ≤ 16) }
-    ensures ok { IfOk result (λ f. (m : Disk) × SourcesOpened stores.now (F.disk files.old) (Ok tt) m
-        × CacheOpened stores.now (Some cache.now) m (Ok tt) (with_cache
+) -> Result<Filling<F::Folder, Group<AnyStore<F::Look, D>>>, Outcome>
+    requires groups { AreGroups groups.now retries }
+    ensures ok { IfOk result (λ f. (m : Disk) × SourcesOpened (stores_of groups.now) (F.disk files.old) (Ok tt) m
+        × CacheOpened (stores_of groups.now) (Some cache.now) m (Ok tt) (with_cache
         (Some (shelf_of F.Folder.files F.Folder.place F.Folder.faults f.cached.shelf)) (F.disk files.new))) }
-    ensures fresh { IfOk result (λ f. JustOpened F.Look.Look D.state ⟦<AnyStore<F::Look, D> as Store>⟧
-        (F.disk files.new) cache.now (shelf_of F.Folder.files F.Folder.place F.Folder.faults f.cached.shelf)
-        f.cached.chain f.further.items) }
-    ensures located { IfOk result (λ f. chain_stores F.Look.Look f.cached.chain ≡ stores.now) }
+    ensures fresh { IfOk result (λ f. JustOpened F.Look.Look D.state retries
+        ⟦<Group<AnyStore<F::Look, D>> as Store>⟧ (F.disk files.new) cache.now
+        (shelf_of F.Folder.files F.Folder.place F.Folder.faults f.cached.shelf) f.cached.chain f.further.items) }
+    ensures located { IfOk result (λ f. chain_groups F.Look.Look f.cached.chain ≡ groups.now) }
     ensures few { IfOk result (λ f. length f.further.items ≤ workers - 1) }
-    ensures err { IfErr result (λ o. SourcesOpened stores.now (F.disk files.old) (Err o) (F.disk files.new)
-        ⊎ ((m : Disk) × SourcesOpened stores.now (F.disk files.old) (Ok tt) m
-        × CacheOpened stores.now (Some cache.now) m (Err o) (F.disk files.new))) }
+    ensures err { IfErr result (λ o. SourcesOpened (stores_of groups.now) (F.disk files.old) (Err o) (F.disk files.new)
+        ⊎ ((m : Disk) × SourcesOpened (stores_of groups.now) (F.disk files.old) (Ok tt) m
+        × CacheOpened (stores_of groups.now) (Some cache.now) m (Err o) (F.disk files.new))) }
 {
-    let opened = match open_sources(alloc, files, dial, stores) {
+    let opened = match open_groups(alloc, files, dial, groups, retries) {
         Ok(opened) => opened,
         Err(outcome) => return Err(outcome),
     };
-    let further = open_chains(alloc, files, dial, stores, workers as usize);
+    let further = open_chains(alloc, files, dial, groups, retries, workers as usize);
     match take_shelf(alloc, files, DigestKind::Sha512T256, cache) {
         Ok(shelf) => Ok(filling_of(shelf, opened, further)),
         Err(outcome) => {
             drop_chains(files, further);
-            drop_sources(files, opened);
+            drop_groups(files, opened);
             Err(outcome)
         }
     }
@@ -129,39 +137,34 @@ fn fill_between<R: Threads + Sync, F: Files, D: Dial + Send>(
     alloc: Global,
     files: &mut F,
     dial: &mut D,
-    cache: &str,
-    filling: Filling<F::Folder, AnyStore<F::Look, D>>,
-    indexes: &[Name],
+    words: &CacheWords,
+    filling: Filling<F::Folder, Group<AnyStore<F::Look, D>>>,
 ) -> Result<(), Outcome>
 where
     F::Look: Send,
     D::Link: Send,
-    requires reached { JustOpened F.Look.Look D.state ⟦<AnyStore<F::Look, D> as Store>⟧ (F.disk files.old) cache.now
+    requires groups { AreGroups words.now.stores words.now.retries }
+    requires reached { JustOpened F.Look.Look D.state words.now.retries ⟦<Group<AnyStore<F::Look, D>> as Store>⟧
+        (F.disk files.old) words.now.cache
         (shelf_of F.Folder.files F.Folder.place F.Folder.faults filling.cached.shelf)
         filling.cached.chain filling.further.items }
-    requires named { All NamesIndex indexes.now }
-    ensures filled { IndexesFilled (chain_stores F.Look.Look filling.cached.chain) cache.now
-        (1 + length filling.further.items) indexes.now (storage (with_cache
+    requires located { chain_groups F.Look.Look filling.cached.chain ≡ words.now.stores }
+    requires named { All NamesIndex words.now.indexes }
+    ensures filled { IndexesFilled words.now.stores words.now.retries words.now.cache
+        (1 + length filling.further.items) words.now.indexes (storage (with_cache
         (Some (shelf_of F.Folder.files F.Folder.place F.Folder.faults filling.cached.shelf)) (F.disk files.old))
         (D.state dial.old)) result (storage (F.disk files.new) (D.state dial.new)) }
 {
+    let indexes = words.indexes.as_slice();
     let (filling, filled) = fill_each(rt, alloc, files, dial, indexes, filling);
     let Filling { cached, further } = filling;
     let (shelf, chain) = cached.into_parts();
-    give_shelf(files, cache, shelf);
+    let groups = chain.into_stores();
+    let answer = numbered(words.stores.as_slice(), groups.as_slice(), filled);
+    give_shelf(files, words.cache.as_str(), shelf);
     close_chains(files, dial, further);
-    close_sources(files, dial, chain.into_stores());
-    filled
-}
-
-/// The words of a `cache`.
-#[derive(Drop)]
-pub struct CacheWords {
-    pub stores: Locations,
-    pub cache: Name,
-    /// How many workers ask the stores, at most.
-    pub workers: u32,
-    pub indexes: Names,
+    close_groups(files, dial, groups);
+    answer
 }
 
 /// Puts the chunks that the indexes list into CACHE, index by index, up to the first chunk that isn't had. What CACHE
@@ -177,21 +180,25 @@ pub fn fill_cache<R: Threads + Sync, F: ImageFiles, D: Dial + Send>(
 where
     F::Look: Send,
     D::Link: Send,
-    requires stores { (1 ≤ length words.stores) × (length words.stores ≤ 16) }
+    requires groups { AreGroups words.stores words.retries }
     requires named { All NamesIndex words.indexes }
-    ensures ends { (p : Output) → CacheEnds words.stores words.cache words.workers words.indexes
+    ensures ends { (p : Output) → CacheEnds words.stores words.retries words.cache words.workers words.indexes
         (world (F.disk files.old) (D.state dial.old) p) result (world (F.disk files.new) (D.state dial.new) p) }
 {
-    let CacheWords {
-        stores,
+    let groups = words.stores.as_slice();
+    let cache = words.cache.as_str();
+    let reached = reach(
+        alloc,
+        files,
+        dial,
+        groups,
+        words.retries,
         cache,
-        workers,
-        indexes,
-    } = words;
-    let folder = cache.as_str();
-    let filling = match reach(alloc, files, dial, stores.as_slice(), folder, workers) {
+        words.workers,
+    );
+    let filling = match reached {
         Ok(filling) => filling,
         Err(outcome) => return Err(outcome),
     };
-    fill_between(rt, alloc, files, dial, folder, filling, indexes.as_slice())
+    fill_between(rt, alloc, files, dial, &words, filling)
 }

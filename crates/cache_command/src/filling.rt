@@ -5,7 +5,6 @@ ghost use Rattle.std.specs.List.{AllZip};
 ghost use Rattle.cache_command.specs.Caching.{IndexFilled, answer_of_fill, of_calls};
 ghost use Rattle.cache_command.specs.Filling.{AsksListings, HoldAlike};
 ghost use Rattle.cache_fill.specs.declared.fill.FillFault.{FillFault};
-ghost use Rattle.command_steps.specs.AnyStores.{said_in, source_faults, source_files};
 
 use cache_fill::fill::{FillFault, fill};
 use cache_store::cached::Cached;
@@ -14,10 +13,7 @@ use caibx_codec::index::Index;
 use chunk_store::id::DigestKind;
 use chunk_store::store::Store;
 use command_outcome::outcome::Outcome;
-use command_steps::any_store::AnyStore;
-use dsy_base::dial::Dial;
 use dsy_base::folder::Folder;
-use dsy_base::look::Look;
 use std::alloc::Global;
 use std::thread::Threads;
 use store_chain::chain::Chain;
@@ -114,24 +110,21 @@ fn answer_of(filled: Result<(), FillFault>) -> Result<(), Outcome>
 }
 
 /// Fills the cache by one index. Cache and chains are made anew, of its kind.
-pub(crate) fn fill_by<R: Threads + Sync, W: Folder, L: Look + Send, D: Dial + Send>(
+pub(crate) fn fill_by<R: Threads + Sync, W: Folder, S: Store + Send>(
     rt: &R,
     alloc: Global,
     index: &Index,
-    filling: Filling<W, AnyStore<L, D>>,
-) -> (Filling<W, AnyStore<L, D>>, Result<(), Outcome>)
-where
-    D::Link: Send,
+    filling: Filling<W, S>,
+) -> (Filling<W, S>, Result<(), Outcome>)
     requires unnamed { (W.pairs ≡ None) × (W.stores ≡ None) }
-    requires alike { HoldAlike ⟦<AnyStore<L, D> as Store>⟧ filling.cached.chain filling.further.items }
+    requires alike { HoldAlike S.Store filling.cached.chain filling.further.items }
     ensures filled { (r : Result Unit FillFault) × (result.1 ≡ answer_of_fill r)
-        × IndexFilled (of_calls (source_files L.files) (said_in L.files D.state) (source_faults L.faults D.state)
-        filling.cached.chain.stores result.0.cached.chain.stores
+        × IndexFilled (of_calls S.Store filling.cached.chain.stores result.0.cached.chain.stores
         (W.faults filling.cached.shelf.folder) (W.faults result.0.cached.shelf.folder)) index.now
         (W.files filling.cached.shelf.folder) (W.files result.0.cached.shelf.folder) r }
-    ensures asks { AllZip (AsksListings ⟦<AnyStore<L, D> as Store>⟧ (index.now ∷ []))
+    ensures asks { AllZip (AsksListings S.Store (index.now ∷ []))
         (filling.cached.chain ∷ filling.further.items) (result.0.cached.chain ∷ result.0.further.items) }
-    ensures alike { HoldAlike ⟦<AnyStore<L, D> as Store>⟧ result.0.cached.chain result.0.further.items }
+    ensures alike { HoldAlike S.Store result.0.cached.chain result.0.further.items }
     ensures place { W.place result.0.cached.shelf.folder ≡ W.place filling.cached.shelf.folder }
     ensures never_falls { W.faults filling.cached.shelf.folder ≤ W.faults result.0.cached.shelf.folder }
 {

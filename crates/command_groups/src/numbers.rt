@@ -9,8 +9,8 @@ use command_outcome::outcome::Outcome;
 use command_words::command::Locations;
 use store_group::group::Group;
 
-// The number of the first store of a group.
-fn first_store(words: &[Locations], group: usize) -> usize
+/// The number of the first store of a group, over all groups.
+pub fn first_store(words: &[Locations], group: usize) -> usize
     requires few { length (stores_of words.now) ≤ 16 }
     ensures value { result ≡ first_store words.now group }
     ensures few { result ≤ length (stores_of words.now) }

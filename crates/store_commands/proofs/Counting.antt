@@ -1,10 +1,9 @@
 -- What stores of folders hold, and how counting in them ends.
 use Rattle.std.proofs.Common.{◌≡◌, ◌<◌, ◌≤◌, ◌+◌, ℕ, suc, arith, All, Bool, true, false, if◌then◌else◌, [], ◌∷◌, length, inl, inr, refl, sym, subst, List, map, Option, Some, None, IfSome, ◌∙◌}
 use Rattle.std.specs.List.{AllZip}
-use Rattle.std.specs.Option.{option_map}
 use Rattle.std.proofs.lemmas.List.Elements.{All-cons, All-nil, length_all_zip}
 use Rattle.caibx_codec.specs.Listing.{Listing, count_of, id_of}
-use Rattle.chunk_store.specs.Said.{Said}
+use Rattle.chunk_store.specs.Said.{KeepsOf, Said}
 use Rattle.store_chain.specs.Refusals.{HasFails}
 use Rattle.store_chain.specs.declared.refused.HasFault.{HasFault}
 use Rattle.store_chain.specs.declared.refused.HasFault.TheVariants as has
@@ -12,18 +11,16 @@ use Rattle.chunk_store.specs.Folders.{chunks}
 use Rattle.dsy_base.specs.Maps.{Map}
 use Rattle.verify_tool.specs.Counts.{AsksBefore, DeniesOthers, FailsAtEntry, held_count, is_listed_before}
 use Rattle.command_words.specs.declared.command.Location.{Location}
-use Rattle.command_steps.proofs.Found.{held_maps}
-use Rattle.command_steps.proofs.Given.{Stands}
-use Rattle.command_steps.specs.Sources.{Storage, said_at, location_files}
+use Rattle.command_groups.specs.Groups.{group_files}
 use Rattle.store_commands.specs.Info.{asks_once}
 
--- the count is exact where the stores are folders that tell
-pub counted_told : {S : Type 0} (folders : Option (Map (Map (List ℕ)))) (stores : List Location) (l : Listing) (files : S → Option (Map (List ℕ))) (xs : List S) (n : ℕ)
-    → IfSome folders (λ m. map files xs ≡ map (location_files m) stores)
-    → ((maps : List (Map (List ℕ))) → map (λ s. option_map chunks (files s)) xs ≡ map Some maps → n ≡ held_count l maps)
-    → IfSome folders (λ m. (fs : List (Map (List ℕ))) → map (location_files m) stores ≡ map Some fs → n ≡ held_count l (map chunks fs))
-counted_told None stores l files xs n found value = tt
-counted_told (Some m) stores l files xs n found value = λ fs told. value (map chunks fs) (held_maps files xs fs (found ∙ told))
+-- the count is exact where the groups are one folder each that tells
+pub counted_told : {S : Type 0} (folders : Option (Map (Map (List ℕ)))) (groups : List (List Location)) (l : Listing) (files holds : S → Option (Map (List ℕ))) (xs : List S) (n : ℕ)
+    → IfSome folders (λ m. map files xs ≡ map (group_files m) groups) → ((fs : List (Map (List ℕ))) → map files xs ≡ map Some fs → map holds xs ≡ map Some (map chunks fs))
+    → ((maps : List (Map (List ℕ))) → map holds xs ≡ map Some maps → n ≡ held_count l maps)
+    → IfSome folders (λ m. (fs : List (Map (List ℕ))) → map (group_files m) groups ≡ map Some fs → n ≡ held_count l (map chunks fs))
+counted_told None groups l files holds xs n found hold value = tt
+counted_told (Some m) groups l files holds xs n found hold value = λ fs told. value (map chunks fs) (hold fs (found ∙ told))
 
 -- a count that a store's fault ended: when the stores were asked for the id of an entry, that one was the first to fail
 pub record Ended {S : Type 0} (said : S → Said) (faults : S → ℕ) (l : Listing) (s : ℕ) (after : List S) : Type 0 where
@@ -46,21 +43,24 @@ ended_by {S} holds said queried faults l old after fault s is many h = record {
   ];
 }
 
--- what all stores have said that were given back, and how often they were asked
-module _ {S : Type 0} (location : S → Location) (said : S → Said) (counted : S → ℕ) (w v : Storage) where
-  all_denied : (id : List ℕ) (xs : List S) (names : List Location) → map location xs ≡ names → All (Stands location said counted w v) xs → All (λ s. (said s).denied id) xs → All (λ q. (said_at w v q).denied id) names
-  all_denied id [] [] same stand all = All-nil (λ q. (said_at w v q).denied id)
-  all_denied id [] (q ∷ names) same stand all = absurd (cc)
-  all_denied id (x ∷ xs) [] same stand all = absurd (cc)
-  all_denied id (x ∷ xs) (q ∷ names) same stand all =
-      let here : location x ≡ q = cc in
-      let rest : map location xs ≡ names = cc in
-      let denied : (said_at w v (location x)).denied id = ((stand 0 x (omega arith)).says id).denied (all 0 x (omega arith)) in
-      All-cons (λ q. (said_at w v q).denied id) q names (subst (λ r. (said_at w v r).denied id) here denied)
-      (all_denied id xs names rest (λ j y lt. stand (suc j) y (omega (arith, lt))) (λ j y lt. all (suc j) y (omega (arith, lt))))
+-- what all groups have said that were given back
+module _ {S X : Type 0} (words : S → X) (said : S → Said) (told : X → Said) where
+  abbrev Says : S → Type 0
+  Says s = (id : List ℕ) → KeepsOf (said s) (told (words s)) id
 
-  pub others_denied : (l : Listing) (n : ℕ) (xs : List S) (names : List Location) → map location xs ≡ names → All (Stands location said counted w v) xs → DeniesOthers said l (count_of l) n xs → DeniesOthers (said_at w v) l (count_of l) n names
-  others_denied l n xs names same stand d = record { held = d.held; many = d.many; denied = λ id listed other. all_denied id xs names same stand (d.denied id listed other) }
+  all_denied : (id : List ℕ) (xs : List S) (names : List X) → map words xs ≡ names → All Says xs → All (λ s. (said s).denied id) xs → All (λ q. (told q).denied id) names
+  all_denied id [] [] same says all = All-nil (λ q. (told q).denied id)
+  all_denied id [] (q ∷ names) same says all = absurd (cc)
+  all_denied id (x ∷ xs) [] same says all = absurd (cc)
+  all_denied id (x ∷ xs) (q ∷ names) same says all =
+      let here : words x ≡ q = cc in
+      let rest : map words xs ≡ names = cc in
+      let denied : (told (words x)).denied id = (says 0 x (omega arith) id).denied (all 0 x (omega arith)) in
+      All-cons (λ q. (told q).denied id) q names (subst (λ r. (told r).denied id) here denied)
+      (all_denied id xs names rest (λ j y lt. says (suc j) y (omega (arith, lt))) (λ j y lt. all (suc j) y (omega (arith, lt))))
+
+  pub others_denied : (l : Listing) (n : ℕ) (xs : List S) (names : List X) → map words xs ≡ names → All Says xs → DeniesOthers said l (count_of l) n xs → DeniesOthers told l (count_of l) n names
+  others_denied l n xs names same says d = record { held = d.held; many = d.many; denied = λ id listed other. all_denied id xs names same says (d.denied id listed other) }
 
 few_before : (l : Listing) (n : ℕ) (old new : List ℕ → ℕ) → AsksBefore l n old new → (id : List ℕ) (b : Bool) → is_listed_before l n id ≡ b → new id ≤ old id + (if b then 1 else 0)
 few_before l n old new h id true is = h.once id

@@ -1,5 +1,5 @@
 -- A folder that was taken, and given back with what it has counted.
-use Rattle.std.proofs.Common.{◌≡◌, ◌≢◌, ◌==◌, ℕ, List, Bool, true, false, cond, Option, Some, None, IfSome, is_some, IfOk, OnErr, IsTrue, Result, Ok, Err, refl, sym, ap, subst, ◌∙◌, arith, eq-eqb, eqb-true, true≢false}
+use Rattle.std.proofs.Common.{◌≡◌, ◌≢◌, ◌==◌, ℕ, List, Bool, true, false, cond, Option, Some, None, IfSome, is_some, IfOk, OnErr, IsTrue, Result, Ok, Err, refl, sym, subst, ◌∙◌, arith, eq-eqb, eqb-true, true≢false}
 use Rattle.std.specs.Option.{option_map}
 use Rattle.std.specs.Map.{count_at}
 use Rattle.chunk_store.specs.declared.id.DigestKind.{DigestKind}

@@ -1,4 +1,5 @@
 pub mod Counting
+pub mod CountedGroups
 pub mod GivenFolders
 pub mod Looking
 pub mod VerifyIndex

@@ -1,20 +1,23 @@
-//! `info -s STORE.. INDEX`: the figures of an index, and how many of its ids the stores hold where some are given.
+//! `info -s STORE.. -e RETRIES INDEX`: the figures of an index, and how many of its ids the stores hold where some are
+//! given. The stores may stand in groups.
 
 ghost use Rattle.std.specs.Prelude.{◌≡◌, ◌≤◌, length, Some};
 ghost use Rattle.caibx_codec.specs.Asks.{IsListedHas};
-ghost use Rattle.store_commands.specs.Info.{CountedInStores, InfoEnds, asks_once};
-ghost use Rattle.command_steps.specs.Asking.{AsksOnly, EachDialed};
-ghost use Rattle.command_worlds.specs.Printing.{Printed};
+ghost use Rattle.command_groups.specs.Asking.{GroupsAsked};
+ghost use Rattle.command_groups.specs.Groups.{AreGroups, stores_of};
 ghost use Rattle.command_steps.specs.Sources.{ConsultsStores, storage};
 ghost use Rattle.command_words.specs.Locations.{NamesIndex};
+ghost use Rattle.command_worlds.specs.Printing.{Printed};
 ghost use Rattle.command_worlds.specs.Worlds.{world};
+ghost use Rattle.store_commands.specs.Info.{CountedInStores, InfoEnds, asks_once};
 ghost use Rattle.verify_tool.specs.Texts.{text_of_info};
 
 use caibx_codec::index::Index;
+use command_groups::groups::{close_groups, open_groups};
+use command_groups::numbers::first_store;
 use command_indexes::load::load_index;
 use command_outcome::outcome::Outcome;
-use command_steps::sources::{close_sources, open_sources};
-use command_words::command::{Location, Locations};
+use command_words::command::{Groups, Locations};
 use command_worlds::printing::printed;
 use dsy_base::dial::Dial;
 use dsy_base::files::Files;
@@ -32,27 +35,31 @@ fn count<F: Files, D: Dial>(
     files: &mut F,
     dial: &mut D,
     index: &Index,
-    stores: &[Location],
+    groups: &[Locations],
+    retries: u32,
 ) -> Result<Option<u64>, Outcome>
-    requires { length stores.now ≤ 16 }
-    ensures counted { CountedInStores (storage (F.disk files.old) (D.state dial.old))
-        (storage (F.disk files.new) (D.state dial.new)) stores.now index.now result }
-    ensures kept { ConsultsStores stores.now (storage (F.disk files.old) (D.state dial.old))
+    requires groups { 1 ≤ length groups.now → AreGroups groups.now retries }
+    ensures counted { CountedInStores retries (storage (F.disk files.old) (D.state dial.old))
+        (storage (F.disk files.new) (D.state dial.new)) groups.now index.now result }
+    ensures kept { ConsultsStores (stores_of groups.now) (storage (F.disk files.old) (D.state dial.old))
         (storage (F.disk files.new) (D.state dial.new)) }
-    ensures asks { EachDialed (AsksOnly (λ id. 0) (asks_once index.now) (IsListedHas index.now)) stores.now
+    ensures asks { GroupsAsked retries (λ id. 0) (asks_once index.now) (IsListedHas index.now) groups.now
         (D.state dial.old).ended (D.state dial.new).ended }
 {
-    if stores.is_empty() {
+    if groups.is_empty() {
         return Ok(None);
     }
-    let opened = open_sources(alloc, files, dial, stores)?;
+    let opened = open_groups(alloc, files, dial, groups, retries)?;
     let mut chain = Chain::with_kind(index.kind(), opened);
     let counted = count_in_store(alloc, index, &mut chain);
-    close_sources(files, dial, chain.into_stores());
+    close_groups(files, dial, chain.into_stores());
     match counted {
         Ok(n) => Ok(Some(n)),
         Err(fault) => match fault {
-            HasFault::StoreFault { store } => Err(Outcome::StoreFault { store }),
+            HasFault::StoreFault { store: group } => {
+                let store = first_store(groups, group as usize) as u32;
+                Err(Outcome::StoreFault { store })
+            }
             HasFault::Memory => Err(Outcome::Memory),
         },
     }
@@ -71,22 +78,24 @@ fn print<O: Sink>(
     printed(info(alloc, index, held, out))
 }
 
-/// Prints the figures of INDEX, with the number of its ids in the stores where some are given.
+/// Prints the figures of INDEX, with the number of its ids in the stores where some are given. A call on a store that
+/// fails is made up to `retries` times more.
 pub fn print_info<F: Files, D: Dial, O: Sink>(
     alloc: Global,
     files: &mut F,
     dial: &mut D,
     out: &mut O,
-    stores: Locations,
+    stores: Groups,
+    retries: u32,
     index: Name,
 ) -> Result<(), Outcome>
-    requires size { length stores ≤ 16 }
+    requires groups { 1 ≤ length stores → AreGroups stores retries }
     requires named { NamesIndex index }
-    ensures ends { InfoEnds stores index (world (F.disk files.old) (D.state dial.old) (O.output out.old)) result
+    ensures ends { InfoEnds stores retries index (world (F.disk files.old) (D.state dial.old) (O.output out.old)) result
         (world (F.disk files.new) (D.state dial.new) (O.output out.new)) }
 {
     let listed = load_index(alloc, files, dial, index)?;
-    let held = count(alloc, files, dial, &listed, stores.as_slice())?;
+    let held = count(alloc, files, dial, &listed, stores.as_slice(), retries)?;
     print(alloc, &listed, held, out)?;
     Ok(())
 }

@@ -11,7 +11,6 @@ use Rattle.command_indexes.proofs.Got.{got_not_spelled}
 use Rattle.command_indexes.proofs.Spelled.{got_then}
 use Rattle.command_indexes.specs.Gets.{IndexGot}
 use Rattle.command_steps.proofs.Dialed.{dials_none}
-use Rattle.command_steps.specs.AnyStores.{said_in, source_faults, source_files}
 use Rattle.command_steps.specs.Sources.{storage}
 use Rattle.command_words.specs.Locations.{NamesIndex, index_place_of}
 
@@ -61,9 +60,7 @@ returns-in-Err-clause-filled g t c =
 pub returns-clause-filled : goal.returns-clause-filled
 returns-clause-filled g t c =
     let D = g.F.Folder.Look in
-    let files = g.F.Look.Look.files in
-    let said = said_in files g.D.Dial.state in
-    let counted = source_faults g.F.Look.Look.faults g.D.Dial.state in
+    let store = g.S.Store in
     let l : Listing = c.in-Ok-load_index.index in
     let old = c.args.filling.cached in
     let new = c.fill_by-filling.result.0.cached in
@@ -72,16 +69,14 @@ returns-clause-filled g t c =
     let u = storage (g.F.Files.disk c.load_index.new.files) (g.D.Dial.state c.load_index.new.dial) in
     let got = subst (λ (q : List ℕ). IndexGot q w (Ok l) u) (c.in-Ok.ensures ∙ c.as_str.ensures) c.in-Ok-load_index.ensures.ends in
     let listed = got_then c.in-Some.first.now w u u l got (dials_none u.dial) in
-    let stopped = fill_stopped (of_calls (source_files files) said counted old.chain.stores new.chain.stores (D.faults old.shelf.folder) (D.faults new.shelf.folder)) l (D.files old.shelf.folder) (D.files new.shelf.folder)
+    let stopped = fill_stopped (of_calls store old.chain.stores new.chain.stores (D.faults old.shelf.folder) (D.faults new.shelf.folder)) l (D.files old.shelf.folder) (D.files new.shelf.folder)
     by.0 c.in-Err-filled.outcome (sym by.1 ∙ c.in-Err-filled.is) by.2 in
     rw c.in-Some.ensures.cases.0 (inr (l, listed, inl stopped))
 
 pub returns-in-Ok-filled-clause-filled : goal.returns-in-Ok-filled-clause-filled
 returns-in-Ok-filled-clause-filled g t c =
     let D = g.F.Folder.Look in
-    let files = g.F.Look.Look.files in
-    let said = said_in files g.D.Dial.state in
-    let counted = source_faults g.F.Look.Look.faults g.D.Dial.state in
+    let store = g.S.Store in
     let l : Listing = c.in-Ok-load_index.index in
     let old = c.args.filling.cached in
     let mid = c.fill_by-filling.result.0.cached in
@@ -95,11 +90,11 @@ returns-in-Ok-filled-clause-filled g t c =
     let had : AreHad rest u v = c.fill_each.ensures.had in
     let got = subst (λ (q : List ℕ). IndexGot q w (Ok l) u) (c.in-Ok.ensures ∙ c.as_str.ensures) c.in-Ok-load_index.ensures.ends in
     let listed = got_then q w u v l got had.dials in
-    let passed = fill_passed (of_calls (source_files files) said counted old.chain.stores mid.chain.stores (D.faults old.shelf.folder) (D.faults mid.shelf.folder)) l (D.files old.shelf.folder) (D.files mid.shelf.folder)
+    let passed = fill_passed (of_calls store old.chain.stores mid.chain.stores (D.faults old.shelf.folder) (D.faults mid.shelf.folder)) l (D.files old.shelf.folder) (D.files mid.shelf.folder)
     by.0 _ (sym by.1 ∙ c.in-Ok-filled.is) by.2 in
     let first = c.fill_by-filling.ensures.asks.0.keeps in
     let then = c.fill_each.ensures.asks.2.0.keeps in
-    rw c.in-Some.ensures.cases.0 (fills_on (source_files files) said counted (D.faults old.shelf.folder) (D.faults mid.shelf.folder) (D.faults new.shelf.folder) old.chain.stores mid.chain.stores new.chain.stores
+    rw c.in-Some.ensures.cases.0 (fills_on store (D.faults old.shelf.folder) (D.faults mid.shelf.folder) (D.faults new.shelf.folder) old.chain.stores mid.chain.stores new.chain.stores
     c.fill_by-filling.ensures.never_falls c.fill_each.ensures.never_falls first.files first.never_fall then.never_fall w u v (rest_part q rest w (Ok l) u got v had)
     q rest l (D.files old.shelf.folder) (D.files mid.shelf.folder) (D.files new.shelf.folder) c.fill_each.result.1 listed passed c.fill_each.ensures.filled)
 

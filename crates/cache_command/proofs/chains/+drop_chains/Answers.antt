@@ -3,7 +3,8 @@ use Rattle.command_steps.proofs.Consulted.{reads_twice}
 use Rattle.cache_command.proofs.LentChains.{chains_later}
 use Rattle.command_steps.proofs.InTurn.{all_last}
 use Rattle.command_steps.proofs.Used.{uses_twice}
-use Rattle.cache_command.specs.Chains.{CanGiveChain, chain_stores}
+use Rattle.cache_command.specs.Chains.{CanGiveChain, chain_groups}
+use Rattle.command_groups.specs.Groups.{stores_of}
 use Rattle.command_steps.specs.Uses.{Uses, folders_among}
 use Rattle.command_words.specs.declared.command.Location.{Location}
 use Rattle.cache_command.proofs.chains.+drop_chains.Goals as goal
@@ -32,7 +33,7 @@ returns-in-Some g t c =
     let rest = c.pop.new.self.items in
     record {
       kept = reads_twice d b e c.drop_chain.ensures.kept c.drop_chains.ensures.kept;
-      used = λ stores named.
-          let both = all_last (λ c. chain_stores look c ≡ stores) c.args.chains.items rest c.in-Some.chain c.in-Some.ensures.items named in
-          uses_twice [] (folders_among stores) d b e (subst (λ (l : List Location). Uses [] (folders_among l) d b) both.1 c.drop_chain.ensures.used) (c.drop_chains.ensures.used stores both.0);
+      used = λ groups named.
+          let both = all_last (λ c. chain_groups look c ≡ groups) c.args.chains.items rest c.in-Some.chain c.in-Some.ensures.items named in
+          uses_twice [] (folders_among (stores_of groups)) d b e (subst (λ (l : List (List Location)). Uses [] (folders_among (stores_of l)) d b) both.1 c.drop_chain.ensures.used) (c.drop_chains.ensures.used groups both.0);
     }

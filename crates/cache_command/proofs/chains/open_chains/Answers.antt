@@ -4,6 +4,7 @@ use Rattle.cache_command.proofs.LentChains.{chain_over, chains_over}
 use Rattle.command_steps.proofs.InTurn.{put_last}
 use Rattle.command_steps.proofs.Used.{all_more, uses_twice}
 use Rattle.cache_command.specs.Chains.{IsChainOpened}
+use Rattle.command_groups.specs.Groups.{stores_of}
 use Rattle.command_steps.specs.Uses.{folders_among}
 use Rattle.cache_command.proofs.chains.open_chains.Goals as goal
 
@@ -21,23 +22,24 @@ loop-opened-preserved g c =
     let d = at c.args.files.now in
     let b = at c.loop-opened.files in
     let e = at c.open_chain.new.files in
-    let stores = c.args.stores.now in
+    let groups = c.args.groups.now in
+    let again = c.args.retries in
     let old = c.loop-opened.chains.items in
     let new = c.push.new.self.items in
     let is = put_last old new c.in-Some.chain c.push.result c.unwrap.result c.unwrap.ensures c.push.ensures.items in
     record {
-      opened = all_more (IsChainOpened look state d e stores) old new c.in-Some.chain is
-          (chains_over look state d d b e (reads_none d) c.in-Some.ensures.kept stores old inv.opened)
-          (chain_over look state d b e e inv.reads (reads_none e) stores c.in-Some.chain c.in-Some.ensures.some);
+      opened = all_more (IsChainOpened look state d e groups again) old new c.in-Some.chain is
+          (chains_over look state d d b e (reads_none d) c.in-Some.ensures.kept groups again old inv.opened)
+          (chain_over look state d b e e inv.reads (reads_none e) groups again c.in-Some.chain c.in-Some.ensures.some);
       few = omega (arith, inv.few, c.push.ensures.upper_bound);
       counted = omega (arith, c.loop-opened-test.true);
       room = omega (arith, inv.room, c.push.ensures.capacity);
       reads = reads_twice d b e inv.reads c.in-Some.ensures.kept;
-      used = uses_twice [] (folders_among stores) d b e inv.used c.in-Some.ensures.used;
+      used = uses_twice [] (folders_among (stores_of groups)) d b e inv.used c.in-Some.ensures.used;
     }
 
 pub returns-in_default-open_chain-clause-opened : goal.returns-in_default-open_chain-clause-opened
 returns-in_default-open_chain-clause-opened g c =
     let at = g.F.Files.disk in
     let d = at c.args.files.now in
-    chains_over g.F.Look.Look g.D.Dial.state d d (at c.loop-opened.files) (at c.open_chain.new.files) (reads_none d) c.in_default-open_chain.ensures.kept c.args.stores.now c.loop-opened.chains.items c.loop-opened.invariant.opened
+    chains_over g.F.Look.Look g.D.Dial.state d d (at c.loop-opened.files) (at c.open_chain.new.files) (reads_none d) c.in_default-open_chain.ensures.kept c.args.groups.now c.args.retries c.loop-opened.chains.items c.loop-opened.invariant.opened

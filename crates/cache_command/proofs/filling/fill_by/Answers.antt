@@ -1,12 +1,10 @@
-use Rattle.std.proofs.Common.{◌≡◌, ◌∙◌, [], ◌∷◌, All, map, refl, subst}
+use Rattle.std.proofs.Common.{◌≡◌, ◌∙◌, [], ◌∷◌, All, map, subst}
 use Rattle.cache_command.proofs.AskedListings.{alike_on, all_listed, remade_alike, remade_asked}
 use Rattle.cache_command.proofs.CacheFilled.{index_filled}
 use Rattle.cache_command.proofs.filling.fill_by.Goals as goal
 use Rattle.cache_command.specs.Caching.{IndexFilled, of_calls}
 use Rattle.cache_store.specs.Shelves.{shelf_of}
 use Rattle.chunk_store.specs.declared.id.DigestKind.{DigestKind}
-use Rattle.command_steps.proofs.Found.{held_maps}
-use Rattle.command_steps.specs.AnyStores.{said_in, source_faults, source_files}
 
 pub fill-filled-requires-clause-kind : goal.fill-filled-requires-clause-kind
 fill-filled-requires-clause-kind g c κs within = c.remake-filling.ensures.kind ∙ c.kind.ensures
@@ -23,19 +21,17 @@ fill-filled-requires-clause-alike g c κs within =
 pub returns-clause-filled : goal.returns-clause-filled
 returns-clause-filled g c =
     let W = g.W.Look in
-    let files = g.L.Look.files in
-    let said = said_in files g.D.Dial.state in
-    let counted = source_faults g.L.Look.faults g.D.Dial.state in
+    let store = g.S.Store in
     let l = c.args.index.now in
     let made = c.remake-filling.ensures in
     let old = c.remake-filling.result.cached in
     let new = c.fill-filled.new.cached in
     let over = c.fill-filled.ensures in
     let r = c.fill-filled.result in
-    let filled = index_filled _ (source_files files) l (shelf_of W.files W.place W.faults old.shelf) (shelf_of W.files W.place W.faults new.shelf) old.chain new.chain
-    over.stores (λ fs told. held_maps (source_files files) old.chain.stores fs told) refl r over.order over.stocks over.holds over.exactly in
-    let by_stores = subst (λ xs. IndexFilled (of_calls (source_files files) said counted xs new.chain.stores (W.faults old.shelf.folder) (W.faults new.shelf.folder)) l (W.files old.shelf.folder) (W.files new.shelf.folder) r) made.stores filled in
-    let by_folder = subst (λ f. IndexFilled (of_calls (source_files files) said counted c.args.filling.cached.chain.stores new.chain.stores (W.faults f) (W.faults new.shelf.folder)) l (W.files f) (W.files new.shelf.folder) r) made.folder by_stores in
+    let filled = index_filled store (g.met.S.Store g.world.𝓛 g.world.𝓜 g.world.𝓡 ((λ s y. y), (λ y. y), (λ y. y), (λ y. y))).lies l (shelf_of W.files W.place W.faults old.shelf) (shelf_of W.files W.place W.faults new.shelf) old.chain new.chain
+    over.stores r over.order over.stocks over.holds over.exactly in
+    let by_stores = subst (λ xs. IndexFilled (of_calls store xs new.chain.stores (W.faults old.shelf.folder) (W.faults new.shelf.folder)) l (W.files old.shelf.folder) (W.files new.shelf.folder) r) made.stores filled in
+    let by_folder = subst (λ f. IndexFilled (of_calls store c.args.filling.cached.chain.stores new.chain.stores (W.faults f) (W.faults new.shelf.folder)) l (W.files f) (W.files new.shelf.folder) r) made.folder by_stores in
     (r, c.answer_of.ensures, by_folder)
 
 pub returns-clause-asks : goal.returns-clause-asks

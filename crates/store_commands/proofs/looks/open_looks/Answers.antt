@@ -1,4 +1,4 @@
-use Rattle.std.proofs.Common.{◌≡◌, ◌∷◌, [], IsSome, arith, get_or, subst, sym}
+use Rattle.std.proofs.Common.{◌∷◌, [], IsSome, arith, get_or, subst, sym}
 use Rattle.command_steps.proofs.Consulted.{reads_twice}
 use Rattle.command_steps.proofs.Used.{uses_twice}
 use Rattle.command_steps.specs.Stores.{IsStoreAt}

@@ -1,4 +1,4 @@
-use Rattle.std.proofs.Common.{◌≡◌, ◌+◌, ◌≤◌, [], ◌∷◌, max, vec_len, All, IsSome}
+use Rattle.std.proofs.Common.{◌+◌, ◌≤◌, [], ◌∷◌, max, vec_len, All, IsSome}
 use Rattle.command_steps.specs.Stores.{IsStoreAt}
 use Rattle.command_steps.specs.Uses.{Uses}
 use Rattle.command_worlds.specs.Worlds.{Reads}
