@@ -22,8 +22,8 @@ DEFINITION = re.compile(r'^( *)(?:(?:abbrev|unfoldable) )?pub ((?:record|data) )
 IMPORT = re.compile(r'^(?:ghost |pub )?use Rattle\.(\w+)\.specs\.(\w+)\.\{([^}]*)\}', re.MULTILINE)
 MODULE = re.compile(r'^(?:ghost |pub )?use Rattle\.(\w+)\.specs\.(\w+) as (\w+);?$', re.MULTILINE)
 MOST_LINES, MOST_BODY, MOST_PARAMETERS = 1500, 40, 7
-# Functions that have more parameters: the program's call, whose signature is given, and one that is to have fewer.
-MANY_PARAMETERS = {'desync_cli': ['desync'], 'image_workers': ['run_workers']}
+# Functions that have more parameters: the program's call, whose signature is given.
+MANY_PARAMETERS = {'desync_cli': ['desync']}
 # The most words of all documents and of single ones, those of the manual page and of tables and blocks counted too.
 MOST_WORDS, MOST_OF = 35000, {PROMISES: 5000, DEFINITIONS: 5000}
 # Names of specs/ that several modules define, which modules these are, and why they may share it.

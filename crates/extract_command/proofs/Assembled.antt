@@ -1,5 +1,5 @@
 -- What an assembly over taken files and folders makes of the answer.
-use Rattle.std.proofs.Common.{ap, arith, ◌⊎◌, true, is_some, unwrap_or, ◌≡◌, ℕ, ◌+◌, ◌<◌, ◌≤◌, ◌-◌, List, ◌++◌, append-nil, length, map, replicate, take, Option, Some, None, IfSome, IfErr, refl, subst, ◌∙◌, sym, inl, inr, [], length-append, Result, Ok, Err}
+use Rattle.std.proofs.Common.{ap, arith, slice_index, slice_index_or, ◌⊎◌, true, is_some, unwrap_or, ◌≡◌, ℕ, ◌+◌, ◌<◌, ◌≤◌, ◌-◌, List, ◌++◌, append-nil, length, map, replicate, take, Option, Some, None, IfSome, IfErr, refl, subst, ◌∙◌, sym, inl, inr, [], length-append, Result, Ok, Err}
 use Rattle.assembler.specs.Assemblies.{After, Assembles, IsObtainable, KeepsBase, KeepsTorn, RightAlike, Verdict}
 use Rattle.assembler.specs.Obtainable.{IsObtainableOrBase, OnlyObtainable}
 use Rattle.assembler.specs.Passes.{want_at}
@@ -11,6 +11,7 @@ use Rattle.chunk_sources.specs.Losses.{chunk_of}
 use Rattle.chunk_sources.specs.Wants.{Task}
 use Rattle.chunk_store.specs.Folders.{chunks}
 use Rattle.chunk_store.specs.declared.id.ChunkId.{ChunkId}
+use Rattle.chunk_store.specs.declared.shows.Shows.{Shows}
 use Rattle.dsy_base.specs.Bytes.{Held, resized}
 use Rattle.dsy_base.specs.Counts.{raised}
 use Rattle.dsy_base.specs.Disk.{Disk}
@@ -19,7 +20,7 @@ use Rattle.dsy_base.specs.declared.fault.IoFault.{IoFault}
 use Rattle.dsy_base.specs.declared.fault.IoFault.TheVariants as io
 use Rattle.extract_plan.specs.Places.{IsSeedIndex, places_at}
 use Rattle.extract_plan.specs.declared.seed.SeedPlace.{SeedPlace}
-use Rattle.std.proofs.lemmas.List.{length-replicate, length-take, take_all}
+use Rattle.std.proofs.lemmas.List.{length-map, length-replicate, length-take, take_all}
 use Rattle.std.proofs.lemmas.Bool.{cases_lt}
 use Rattle.std.specs.List.{AllZip}
 use Rattle.range_ledger.specs.Fills.{WhereTold}
@@ -30,12 +31,16 @@ use Rattle.store_chain.specs.Giving.{LacksAll}
 use Rattle.store_chain.specs.declared.refused.Refused.{Refused}
 use Rattle.store_chain.specs.declared.refused.Refused.TheVariants as refused
 use Rattle.extract_command.proofs.Seeded.{given_had, had_given}
-use Rattle.command_words.specs.declared.command.Location.{Location}
+use Rattle.command_groups.proofs.Lacked.{damaged_is, lacks_numbered}
+use Rattle.command_groups.specs.Groups.{first_store, group_files}
+use Rattle.command_groups.specs.Lacking.{GroupsLack}
+use Rattle.command_groups.specs.Numbers.{IsNumbered, answer_of_stores}
 use Rattle.command_steps.proofs.Taken.{at_name_twice}
-use Rattle.command_steps.specs.Sources.{HaveLacked, Storage, location_files}
+use Rattle.command_steps.specs.Sources.{Storage}
 use Rattle.extract_command.specs.Extract.{Assembled, CacheLacksEntry, CanBeHad, Into, IsLacking, Leaves, NoneAsked, OnlyHad, SeedHas, Seeds, IsTorn, NoneReached, StopsFailed, StopsSomewhere, Told, Undisturbed, WhereFolders, answer_of_assembly, answer_of_taking, base_of, folder_of, old_of}
 use Rattle.command_steps.specs.Seeds.{IsViewed}
 use Rattle.command_worlds.specs.Worlds.{DiskQuiet, FileRose}
+use Rattle.extract_command.specs.declared.stores.Stores.{Stores}
 
 over_told : {X Y Z : Type 0} (x : Option X) (y : Option Y) (z : Option Z) (P : X → Y → Z → Type 0) → ((a : X) (b : Y) (c : Z) → x ≡ Some a → y ≡ Some b → z ≡ Some c → P a b c) → IfSome x (λ a. IfSome y (λ b. IfSome z (λ c. P a b c)))
 over_told None y z P f = tt
@@ -189,7 +194,7 @@ abbrev pub TargetAs : Type 0 → ExtractFault → Type 0
 TargetAs P faults.TargetFault = P
 TargetAs P other = Unit {0}
 
-module _ (w v : Storage) (stores : List Location) (cache : Option (List ℕ)) (out : Into) (l : Listing) (x : Seeds) where
+module _ (w v : Storage) (stores : Stores) (cache : Option (List ℕ)) (out : Into) (l : Listing) (x : Seeds) where
   abbrev d : Disk
   d = w.disk
 
@@ -203,6 +208,11 @@ module _ (w v : Storage) (stores : List Location) (cache : Option (List ℕ)) (o
   abbrev after_it : ℕ
   after_it = count_at e.file_counts out.name
 
+  -- the chunk of an entry is lacked for this reason, which names a group; so it is for one that names a store of the group
+  abbrev IsLackingFor : Map (List ℕ) → Map (Map (List ℕ)) → ℕ → ChunkId → Refused → Type 0
+  IsLackingFor b n k id by_group = GroupsLack stores.retries (chunk_of (kind_of l) id (size_of l k)) w v stores.groups by_group
+      × ((r : Refused) → IsNumbered stores.groups by_group r → IsLacking w v b n cache out l x stores k id r)
+
   -- where all is told
   pub record Facts (r : Result Report ExtractFault) (b : Map (List ℕ)) (n : Map (Map (List ℕ))) (a : Map (List ℕ)) : Type 0 where
     pub cs : List (Map (List ℕ))
@@ -210,7 +220,7 @@ module _ (w v : Storage) (stores : List Location) (cache : Option (List ℕ)) (o
     pub t : List ℕ
     pub leaves : Leaves b a out t
     pub assembles : Assembles l (NoneReached w v stores) before_it after_it r (old_of b out) t
-    pub lacks : IfErr r (LostAs (IsLacking w v b n cache out l x stores))
+    pub lacks : IfErr r (LostAs (IsLackingFor b n))
     pub only : WhereFolders n stores (λ fs. OnlyObtainable l (CanBeHad l (base_of b out l) b x (map chunks cs ++ map chunks fs)) before_it after_it r (old_of b out) t)
     pub verdict : WhereFolders n stores (λ fs. Undisturbed d e cache l cs fs → Verdict l (CanBeHad l (base_of b out l) b x (map chunks cs ++ map chunks fs)) r)
     pub settled : WhereFolders n stores (λ fs. Undisturbed d e cache l cs fs → After l (CanBeHad l (base_of b out l) b x (map chunks cs ++ map chunks fs)) (base_of b out l) t r)
@@ -249,14 +259,22 @@ module _ (w v : Storage) (stores : List Location) (cache : Option (List ℕ)) (o
   only_had : (why : ExtractFault) (b : Map (List ℕ)) (n : Map (Map (List ℕ))) (a : Map (List ℕ)) (f : Facts (Err why) b n a) → KeepsBase l before_it after_it (base_of b out l) f.t → OnlyHad d e b n f.cs stores out l x f.t
   only_had why b n a f keeps = λ fs there. only_base l (CanBeHad l (base_of b out l) b x (map chunks f.cs ++ map chunks fs)) before_it after_it why (old_of b out) f.t keeps (f.only fs there)
 
-  pub assembled : (r : Result Report ExtractFault) → AllFacts r → IfErr r (TargetAs (FileRose d e out.name)) → IfErr r (StoreAs (StopsFailed w v stores l))
-      → Assembled w v stores cache out l x (answer_of_assembly r)
-  assembled (Ok r) facts target store = told _ _ facts (λ b n a f. ((f.t, (f.leaves, f.assembles.1), f.assembles.0), f.only))
-  assembled (Err (faults.Missing k id)) facts target store = told _ _ facts (λ b n a f. ((f.t, (f.leaves, f.assembles.0), f.assembles.1, only_had (faults.Missing k id) b n a f f.assembles.0, f.settled), f.lacks, f.verdict))
-  assembled (Err (faults.Damaged k id s y)) facts target store = told _ _ facts (λ b n a f. ((f.t, (f.leaves, f.assembles.0), f.assembles.1, only_had (faults.Damaged k id s y) b n a f f.assembles.0, f.settled), f.lacks, f.verdict))
-  assembled (Err (faults.StoreFault s)) facts target store = (store, told _ _ facts (λ b n a f. ((f.t, (f.leaves, f.assembles), only_had (faults.StoreFault s) b n a f f.assembles), f.lacks.0, f.lacks.1, f.lacks.2)))
-  assembled (Err faults.TargetFault) facts target store = (target, told _ _ facts (λ b n a f. torn_there b a (OnlyHad d e b n f.cs stores out l x) f.t f.leaves (only_had faults.TargetFault b n a f) target f.assembles))
-  assembled (Err faults.Memory) facts target store = told _ _ facts (λ b n a f. somewhere b a (OnlyHad d e b n f.cs stores out l x) f.t f.leaves (only_had faults.Memory b n a f) f.assembles)
+  -- the answer names the first store of a group that failed, and the active store of one that gave something else
+  module _ (active : List ℕ) (inside : (k : ℕ) → k < length stores.groups → slice_index active k < length (slice_index_or stores.groups k [])) where
+    damaged : (b : Map (List ℕ)) (n : Map (Map (List ℕ))) (k : ℕ) (id : ChunkId) (s : ℕ) (y : Shows) → IsLackingFor b n k id (refused.Damaged s y)
+        → IsLacking w v b n cache out l x stores k id (refused.Damaged (first_store stores.groups s + slice_index active s) y)
+    damaged b n k id s y h =
+        let c = chunk_of (kind_of l) id (size_of l k) in
+        h.1 (refused.Damaged (first_store stores.groups s + slice_index active s) y) (damaged_is stores.retries c w v stores.groups active inside s y h.0)
+
+    pub assembled : (r : Result Report ExtractFault) → AllFacts r → IfErr r (TargetAs (FileRose d e out.name)) → IfErr r (StoreAs (λ s. StopsFailed w v stores l (first_store stores.groups s)))
+        → Assembled w v stores cache out l x (answer_of_stores stores.groups active (answer_of_assembly r))
+    assembled (Ok r) facts target store = told _ _ facts (λ b n a f. ((f.t, (f.leaves, f.assembles.1), f.assembles.0), f.only))
+    assembled (Err (faults.Missing k id)) facts target store = told _ _ facts (λ b n a f. ((f.t, (f.leaves, f.assembles.0), f.assembles.1, only_had (faults.Missing k id) b n a f f.assembles.0, f.settled), f.lacks.1 refused.Missing refl, f.verdict))
+    assembled (Err (faults.Damaged k id s y)) facts target store = told _ _ facts (λ b n a f. ((f.t, (f.leaves, f.assembles.0), f.assembles.1, only_had (faults.Damaged k id s y) b n a f f.assembles.0, f.settled), damaged b n k id s y f.lacks, f.verdict))
+    assembled (Err (faults.StoreFault s)) facts target store = (store, told _ _ facts (λ b n a f. ((f.t, (f.leaves, f.assembles), only_had (faults.StoreFault s) b n a f f.assembles), f.lacks.0, f.lacks.1, f.lacks.2.1 (refused.StoreFault (first_store stores.groups s)) refl)))
+    assembled (Err faults.TargetFault) facts target store = (target, told _ _ facts (λ b n a f. torn_there b a (OnlyHad d e b n f.cs stores out l x) f.t f.leaves (only_had faults.TargetFault b n a f) target f.assembles))
+    assembled (Err faults.Memory) facts target store = told _ _ facts (λ b n a f. somewhere b a (OnlyHad d e b n f.cs stores out l x) f.t f.leaves (only_had faults.Memory b n a f) f.assembles)
 
   -- where OUT wasn't taken all is as it was
   pub same_before : (C : List (Map (List ℕ)) → Type 0) → IfSome d.folders (λ n. (cs : List (Map (List ℕ))) × (map n (folder_of cache) ≡ map Some cs) × C cs) → e.files ≡ d.files → NoneAsked w v → Told d e cache (λ b a n cs. (a ≡ b) × NoneAsked w v)
@@ -284,9 +302,9 @@ module _ (w v : Storage) (stores : List Location) (cache : Option (List ℕ)) (o
   not_taken_as io.Failed before rose = (rose refl, told_as (λ b a n cs t. OnlyHad d e b n cs stores out l x t × (IsTorn d e b out l t ⊎ ((t ≡ base_of b out l) × NoneReached w v stores))) before)
   not_taken_as io.Memory before rose = told_as (λ b a n cs. OnlyHad d e b n cs stores out l x) before
 
-  -- the same as `IsLacking`, over the bytes that OUT had
+  -- the same as `IsLacking`, over the bytes that OUT had, and for a group
   abbrev pub LackingOver : Map (Map (List ℕ)) → List ℕ → ℕ → ChunkId → Refused → Type 0
-  LackingOver n o k id r = (k < count_of l) × (id.0 ≡ id_of l k) × HaveLacked (chunk_of (kind_of l) id (size_of l k)) w v stores r
+  LackingOver n o k id r = (k < count_of l) × (id.0 ≡ id_of l k) × GroupsLack stores.retries (chunk_of (kind_of l) id (size_of l k)) w v stores.groups r
       × WhereFolders n stores (λ fs. LacksAll (chunk_of (kind_of l) id (size_of l k)) (map chunks fs) r)
       × (RightAlike l (resized o (image_length l)) k → FileRose d e out.name)
 
@@ -298,13 +316,27 @@ module _ (w v : Storage) (stores : List Location) (cache : Option (List ℕ)) (o
   abbrev pub AllLack : Map (List ℕ) → Map (Map (List ℕ)) → List ℕ → ℕ → ChunkId → Refused → Type 0
   AllLack b n o k id r = LackingOver n o k id r × OthersLack b k id r
 
-  lacking : (b : Map (List ℕ)) (n : Map (Map (List ℕ))) (k : ℕ) (id : ChunkId) (r : Refused) → AllLack b n (old_of b out) k id r → IsLacking w v b n cache out l x stores k id r
-  lacking b n k id r h = record { listed = h.0.0; id_is = h.0.1; said = h.0.2; lacks = h.0.3; copies = h.0.4; seeds = h.1.0; uncached = h.1.1 }
+  as_many : (n : Map (Map (List ℕ))) (fs : List (Map (List ℕ))) → map (group_files n) stores.groups ≡ map Some fs → length (map chunks fs) ≡ length stores.groups
+  as_many n fs told = length-map fs chunks ∙ sym (length-map fs (λ (f : Map (List ℕ)). Some f)) ∙ sym (ap (λ (os : List (Option (Map (List ℕ)))). length os) told) ∙ length-map stores.groups (group_files n)
+
+  lacking : (b : Map (List ℕ)) (n : Map (Map (List ℕ))) (k : ℕ) (id : ChunkId) (r : Refused) → AllLack b n (old_of b out) k id r → IsLackingFor b n k id r
+  lacking b n k id by_group h = (
+    h.0.2,
+    λ r is. record {
+      listed = h.0.0;
+      id_is = h.0.1;
+      said = (by_group, is, h.0.2);
+      lacks = λ fs told. lacks_numbered n stores.groups fs told (chunk_of (kind_of l) id (size_of l k)) (map chunks fs) (as_many n fs told) by_group r is (h.0.3 fs told);
+      copies = h.0.4;
+      seeds = h.1.0;
+      uncached = h.1.1;
+    },
+  )
 
   module _ (P : List (Map (List ℕ)) → List ℕ → ℕ → Type 0) (had : (b : Map (List ℕ)) → d.files ≡ Some b → (maps : List (Map (List ℕ))) (base : List ℕ) (i : ℕ) → i < count_of l → P maps base i → CanBeHad l base b x maps i)
       (back : (b : Map (List ℕ)) → d.files ≡ Some b → DiskQuiet d e → (maps : List (Map (List ℕ))) (base : List ℕ) (i : ℕ) → i < count_of l → CanBeHad l base b x maps i → P maps base i) where
     pub facts_of : (r : Result Report ExtractFault) (looks : List (Option (Map (List ℕ)))) (C : List (Map (List ℕ)) → Type 0) (t0 t1 : Option (List ℕ)) (U : Type 0) (f0 f1 : ℕ) (M N : List (Map (List ℕ)) → List (Map (List ℕ)) → Type 0)
-        → IfSome d.folders (λ m. looks ≡ map (location_files m) stores)
+        → IfSome d.folders (λ m. looks ≡ map (group_files m) stores.groups)
         → IfSome d.folders (λ n. (cs : List (Map (List ℕ))) × (map n (folder_of cache) ≡ map Some cs) × C cs)
         → IfSome d.files (λ m. t0 ≡ Some (old_of m out)) → is_some t0 ≡ is_some t1
         → e.files ≡ option_map (λ m. at_name m out.name t1) (option_map (λ m. at_name m out.name None) d.files)
@@ -314,10 +346,10 @@ module _ (w v : Storage) (stores : List Location) (cache : Option (List ℕ)) (o
         → ((b : Map (List ℕ)) → d.files ≡ Some b → (cached maps : List (Map (List ℕ))) → M cached maps → WhereTold t0 t1 (λ o t. OnlyObtainable l (CanBeHad l (resized o (image_length l)) b x (cached ++ maps)) f0 f1 r o t))
         → ((cached maps : List (Map (List ℕ))) → N cached maps → IfSome t0 (λ o. Verdict l (P (cached ++ maps) (resized o (image_length l))) r))
         → ((cached maps : List (Map (List ℕ))) → N cached maps → WhereTold t0 t1 (λ o t. After l (P (cached ++ maps) (resized o (image_length l))) (resized o (image_length l)) t r))
-        → ((b : Map (List ℕ)) → d.files ≡ Some b → (n : Map (Map (List ℕ))) → d.folders ≡ Some n → (fs : List (Map (List ℕ))) → map (location_files n) stores ≡ map Some fs → looks ≡ map Some fs → (cs : List (Map (List ℕ))) → C cs → M (map chunks cs) (map chunks fs))
-        → ((b : Map (List ℕ)) → d.files ≡ Some b → (n : Map (Map (List ℕ))) → d.folders ≡ Some n → (fs : List (Map (List ℕ))) → map (location_files n) stores ≡ map Some fs → looks ≡ map Some fs → (cs : List (Map (List ℕ))) → C cs → Undisturbed d e cache l cs fs → N (map chunks cs) (map chunks fs)) → AllFacts r
+        → ((b : Map (List ℕ)) → d.files ≡ Some b → (n : Map (Map (List ℕ))) → d.folders ≡ Some n → (fs : List (Map (List ℕ))) → map (group_files n) stores.groups ≡ map Some fs → looks ≡ map Some fs → (cs : List (Map (List ℕ))) → C cs → M (map chunks cs) (map chunks fs))
+        → ((b : Map (List ℕ)) → d.files ≡ Some b → (n : Map (Map (List ℕ))) → d.folders ≡ Some n → (fs : List (Map (List ℕ))) → map (group_files n) stores.groups ≡ map Some fs → looks ≡ map Some fs → (cs : List (Map (List ℕ))) → C cs → Undisturbed d e cache l cs fs → N (map chunks cs) (map chunks fs)) → AllFacts r
     facts_of r looks C t0 t1 U f0 f1 M N found cached took told left excused none bytes lacks only exactly after shown quiet b n a is y z =
-        let f : looks ≡ map (location_files n) stores = subst (λ o. IfSome o (λ m. looks ≡ map (location_files m) stores)) y found in
+        let f : looks ≡ map (group_files n) stores.groups = subst (λ o. IfSome o (λ m. looks ≡ map (group_files m) stores.groups)) y found in
         let g : (cs : List (Map (List ℕ))) × (map n (folder_of cache) ≡ map Some cs) × C cs = subst (λ o. IfSome o (λ n. (cs : List (Map (List ℕ))) × (map n (folder_of cache) ≡ map Some cs) × C cs)) y cached in
         let o : t0 ≡ Some (old_of b out) = subst (λ o. IfSome o (λ m. t0 ≡ Some (old_of m out))) is took in
         let lf : e.files ≡ option_map (λ m. at_name m out.name t1) (option_map (λ m. at_name m out.name None) (Some b)) =
@@ -346,7 +378,7 @@ module _ (w v : Storage) (stores : List Location) (cache : Option (List ℕ)) (o
                       t = t;
                       leaves = ap (λ o. unwrap_or o a) are ∙ at_name_twice b out.name None (Some t);
                       assembles = subst (λ (q : List ℕ). Assembles l (NoneReached w v stores) before_it after_it r q t) was (assembles_as l U (NoneReached w v stores) f0 f1 before_it after_it r p t none excused bs);
-                      lacks = lost_on (AllLack b n (old_of b out)) (IsLacking w v b n cache out l x stores) (lacking b n) r (subst (λ (q : List ℕ). IfErr r (LostAs (AllLack b n q))) was ls);
+                      lacks = lost_on (AllLack b n (old_of b out)) (IsLackingFor b n) (lacking b n) r (subst (λ (q : List ℕ). IfErr r (LostAs (AllLack b n q))) was ls);
                       only = λ fs there.
                           let maps = map chunks cs ++ map chunks fs in
                           subst (λ (q : List ℕ). OnlyObtainable l (CanBeHad l (resized q (image_length l)) b x maps) before_it after_it r q t) was

@@ -10,7 +10,10 @@ use Rattle.chunk_sources.specs.Caches.{Stocked, TakesListed, cached_in, seen}
 use Rattle.chunk_sources.specs.declared.kit.Kit.{Kit}
 use Rattle.chunk_store.specs.Folders.{chunks}
 use Rattle.command_outcome.specs.declared.outcome.Outcome.TheVariants as ends
-use Rattle.command_steps.proofs.Asking.{none_dialed}
+use Rattle.command_groups.proofs.Asked.{groups_undialed}
+use Rattle.command_groups.proofs.Words.{group_words}
+use Rattle.command_groups.specs.Asking.{with_retries}
+use Rattle.command_groups.specs.Groups.{stores_of}
 use Rattle.command_steps.proofs.Cached.{given_reads}
 use Rattle.command_steps.proofs.Consulted.{reads_twice}
 use Rattle.command_steps.proofs.Dialed.{dials_twice}
@@ -28,16 +31,17 @@ use Rattle.dsy_base.specs.declared.fault.IoFault.{IoFault}
 use Rattle.dsy_base.specs.declared.fault.IoFault.TheVariants as io
 use Rattle.dsy_base.specs.declared.look.Look.{Ghosts as LookWords}
 use Rattle.dsy_base.specs.declared.view.View.{Ghosts as ViewWords}
-use Rattle.extract_command.proofs.AnyWords.{any_words}
 use Rattle.extract_command.proofs.Assembled.{not_taken_as, same_before, stopped_before}
 use Rattle.extract_command.proofs.LentKits.{all_given_back, given_folders as kits_folders}
 use Rattle.extract_command.proofs.Had.{all_held}
 use Rattle.extract_command.proofs.Shelved.{AreOfFolders, IsTold, cache_filled, cached_there, name_in}
 use Rattle.extract_command.proofs.Wrote.{read_with, wrote_on, wrote_read, wrote_then}
 use Rattle.extract_command.specs.Extract.{Assembled, FillsCache, GetsWants, Into, NeverFail, Seeds, answer_of_taking}
-use Rattle.extract_command.specs.Held.{IsGivenBack, stores_of}
-use Rattle.extract_command.specs.Kits.{AreOpened, IsKitOpened, kit_stores}
+use Rattle.extract_command.specs.Held.{IsGivenBack, groups_of}
+use Rattle.extract_command.specs.Kits.{AreOpened, IsKitOpened, kit_groups}
 use Rattle.extract_command.specs.declared.held.Held.{Held}
+use Rattle.extract_command.specs.declared.stores.Stores.{Stores}
+use Rattle.store_group.specs.Groups.{Grouped}
 use Rattle.extract_plan.specs.Deal.{Deal, IsPlan}
 use Rattle.http_wire.specs.declared.reply.Method.TheVariants as method
 use Rattle.image_workers.specs.Kits.{worker_asks}
@@ -67,37 +71,37 @@ module _ {L W V D K : Type 0} (look : LookWords L) (folder : LookWords W) (view 
       reads_twice d b v.disk (read_with o w.disk back.first.disk kits.disk) (reads_twice b back.closed v.disk gave back.seeds)
 
   -- none but these servers was asked
-  pub back_dialed : (names : List Location) → stores_of look h ≡ names → All (λ k. kit_stores look view k ≡ names) h.kits.items → DialsStores names w.dial v.dial
-  back_dialed names at all = (
+  pub back_dialed : (groups : List (List Location)) → groups_of look h ≡ groups → All (λ k. kit_groups look view k ≡ groups) h.kits.items → DialsStores (stores_of groups) w.dial v.dial
+  back_dialed groups at all = (
     dials_twice w.dial back.first.dial v.dial kits.dial back.stores.0.dial,
-    λ t. back.stores.1 (subst (λ (l : List Location). IsTrue (are_folders l)) (sym at) t) ∙ kits_folders look view state names h.kits.items w back.first all back.kits t,
+    λ t. back.stores.1 (subst (λ (l : List (List Location)). IsTrue (are_folders (stores_of l))) (sym at) t) ∙ kits_folders look view state groups h.kits.items w back.first all back.kits t,
   )
 
 -- ---- what the cache's folder holds in the end
 
 -- what the stores of kits hold is in the folders that they were opened from
-of_folders : {L V D K : Type 0} (look : LookWords L) (view : ViewWords V) (state : D → DialState) (all : List (Kit (AnyStore L D K) V)) (stores : List Location) (images : List (List ℕ)) (d b : Disk) → AreOpened look view state d b stores images all
-    → (o : Option (Map (Map (List ℕ)))) → d.folders ≡ o → IfSome o (AreOfFolders (any_words look state) (all_stores all) stores)
+of_folders : {L V D K : Type 0} (look : LookWords L) (view : ViewWords V) (state : D → DialState) (all : List (Kit (Grouped (AnyStore L D K)) V)) (stores : Stores) (images : List (List ℕ)) (d b : Disk) → AreOpened look view state d b stores images all
+    → (o : Option (Map (Map (List ℕ)))) → d.folders ≡ o → IfSome o (AreOfFolders (group_words look state) (all_stores all) stores)
 of_folders look view state all stores images d b are None is = tt
 of_folders look view state all stores images d b are (Some m) is = λ fs there id c held. all_held look view state d b stores (record { images = images; listings = [] }) m is fs there all are id c held
 
 -- it was filled from the stores of these kits, or stands as before
-pub fills : {L V D K : Type 0} (look : LookWords L) (view : ViewWords V) (state : D → DialState) (all : List (Kit (AnyStore L D K) V)) (stores : List Location) (images : List (List ℕ)) (l : Listing) (o p : Option Shelf) (cache : Option (List ℕ)) (d b e : Disk) → name_in o ≡ cache → IsTold o d.folders
-    → AreOpened look view state (with_cache o d) b stores images all → Stocked (TakesListed (any_words look state) l (all_stores all)) o p → Writes (with_cache p d) e → FillsCache stores cache l (with_cache o d) e
+pub fills : {L V D K : Type 0} (look : LookWords L) (view : ViewWords V) (state : D → DialState) (all : List (Kit (Grouped (AnyStore L D K)) V)) (stores : Stores) (images : List (List ℕ)) (l : Listing) (o p : Option Shelf) (cache : Option (List ℕ)) (d b e : Disk) → name_in o ≡ cache → IsTold o d.folders
+    → AreOpened look view state (with_cache o d) b stores images all → Stocked (TakesListed (group_words look state) l (all_stores all)) o p → Writes (with_cache p d) e → FillsCache stores cache l (with_cache o d) e
 fills look view state all stores images l o p cache d b e named told are stocked wrote = record {
-  folders = cache_filled (any_words look state) (all_stores all) stores l o p cache d.folders (with_cache o d) e named refl wrote.folders told stocked (of_folders look view state all stores images (with_cache o d) b are (with_cache o d).folders refl);
+  folders = cache_filled (group_words look state) (all_stores all) stores l o p cache d.folders (with_cache o d) e named refl wrote.folders told stocked (of_folders look view state all stores images (with_cache o d) b are (with_cache o d).folders refl);
   counts = wrote.counts;
   folder_counts = wrote.folder_counts;
 }
 
 -- nothing was added to it
-pub unfilled : {L V D : Type 0} (K : Type 0) (look : LookWords L) (view : ViewWords V) (state : D → DialState) (stores : List Location) (l : Listing) (o : Option Shelf) (cache : Option (List ℕ)) (d e : Disk) → name_in o ≡ cache → IsTold o d.folders → Writes (with_cache o d) e → FillsCache stores cache l (with_cache o d) e
+pub unfilled : {L V D : Type 0} (K : Type 0) (look : LookWords L) (view : ViewWords V) (state : D → DialState) (stores : Stores) (l : Listing) (o : Option Shelf) (cache : Option (List ℕ)) (d e : Disk) → name_in o ≡ cache → IsTold o d.folders → Writes (with_cache o d) e → FillsCache stores cache l (with_cache o d) e
 unfilled {L} {V} {D} K look view state stores l o cache d e named told wrote =
-    fills look view state [] stores [] l o o cache d d e named told (All-nil (IsKitOpened {L = L} {V = V} {D = D} {K = K} look view state (with_cache o d) d stores [])) (stocked_none (TakesListed (any_words {L = L} {D = D} {K = K} look state) l []) o) wrote
+    fills look view state [] stores [] l o o cache d d e named told (All-nil (IsKitOpened {L = L} {V = V} {D = D} {K = K} look view state (with_cache o d) d stores [])) (stocked_none (TakesListed (group_words {L = L} {D = D} {K = K} look state) l []) o) wrote
 
 -- ---- where it ended before OUT was written
 
-module _ (stores : List Location) (cache : Option (List ℕ)) (out : Into) (l : Listing) (z : Seeds) (o : Option Shelf) (k : DialState) (d e : Disk) where
+module _ (stores : Stores) (cache : Option (List ℕ)) (out : Into) (l : Listing) (z : Seeds) (o : Option Shelf) (k : DialState) (d e : Disk) where
   abbrev was : Storage
   was = storage (with_cache o d) k
 
@@ -122,6 +126,8 @@ module _ (stores : List Location) (cache : Option (List ℕ)) (out : Into) (l : 
     workers = 1;
     plan = p;
     planned = plan;
-    gets = λ spared are. (k.ended, none_dialed (AsksFew method.Get (worker_asks l p spared 0)) (λ s id. omega arith) stores k.ended, refl);
-    sends = (k.ended, none_dialed (SendsFronts (IsListedGet l)) (λ s n t lt. absurd (omega (arith, lt))) stores k.ended, refl);
+    gets = λ spared are.
+        let few = AsksFew method.Get (with_retries stores.retries (worker_asks l p spared 0)) in
+        (k.ended, groups_undialed few few (λ s id. omega arith) (λ s id. omega arith) stores.groups k.ended, refl);
+    sends = (k.ended, groups_undialed (SendsFronts (IsListedGet l)) (λ s ended. Unit {0}) (λ s n t lt. absurd (omega (arith, lt))) (λ s. tt) stores.groups k.ended, refl);
   }

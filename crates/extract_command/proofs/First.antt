@@ -1,5 +1,5 @@
 -- What holds for an assembly with kits, of which the first are known.
-use Rattle.std.proofs.Common.{◌≡◌, ◌∙◌, ℕ, ◌<◌, ◌≤◌, List, length, map, Bool, Option, Some, None, Result, sym, ap, subst, arith}
+use Rattle.std.proofs.Common.{◌≡◌, ◌∙◌, ℕ, ◌<◌, List, length, map, Bool, Option, Some, None, Result, sym, subst}
 use Rattle.std.proofs.lemmas.List.{length-map}
 use Rattle.std.specs.List.{AllZip}
 use Rattle.assembler.specs.Obtainable.{OnlyObtainable}
@@ -31,12 +31,6 @@ by_first {S} {V} store view t never cache_never o p a b e u f xs ms ys ns r shel
     subst (λ (c : Option Shelf). IsAssembledBy store view t never cache_never o p (lent a ms c) (lent b ns f) r) shelf
     (subst (λ (l : List (Kit S V)). IsAssembledBy store view t never cache_never o p (lent a l e) (lent b ns f) r) old
     (subst (λ (l : List (Kit S V)). IsAssembledBy store view t never cache_never o p (lent a xs e) (lent b l f) r) new made))
-
--- as many words as stores
-pub many_named : {S X : Type 0} (location : S → X) (xs : List S) (names : List X) → map location xs ≡ names → (1 ≤ length xs) × (length xs ≤ 16) → (1 ≤ length names) × (length names ≤ 16)
-many_named location xs names is few =
-    let many : length names ≡ length xs = sym (ap length is) ∙ length-map xs location in
-    (omega (arith, many, few.0), omega (arith, many, few.1))
 
 -- what holds of the entries that can be had over some bytes
 pub only_told : (l : Listing) (P Q : List ℕ → ℕ → Type 0) (a b : ℕ) (r : Result Report ExtractFault) (o t : Option (List ℕ)) → ((y : List ℕ) (i : ℕ) → i < count_of l → P y i → Q y i)

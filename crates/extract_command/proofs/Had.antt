@@ -8,11 +8,11 @@ use Rattle.chunk_sources.specs.Sources.{views_of}
 use Rattle.chunk_sources.specs.Wants.{Task}
 use Rattle.chunk_sources.specs.declared.kit.Kit.{Kit}
 use Rattle.chunk_store.specs.Folders.{chunks}
-use Rattle.command_steps.proofs.Found.{held_maps}
-use Rattle.command_steps.specs.AnyStores.{chunks_in, source_files}
-use Rattle.command_steps.specs.Sources.{location_files}
+use Rattle.command_groups.proofs.Stand.{groups_hold, groups_tell}
+use Rattle.command_groups.proofs.Words.{group_words}
+use Rattle.command_groups.specs.Groups.{group_files}
+use Rattle.command_groups.specs.Opened.{told_files}
 use Rattle.command_steps.specs.declared.any_store.AnyStore.{AnyStore}
-use Rattle.command_words.specs.declared.command.Location.{Location}
 use Rattle.command_worlds.specs.Worlds.{FileRose}
 use Rattle.dsy_base.specs.Bytes.{resized}
 use Rattle.dsy_base.specs.Disk.{Disk}
@@ -20,15 +20,16 @@ use Rattle.dsy_base.specs.Links.{DialState}
 use Rattle.dsy_base.specs.Maps.{Map}
 use Rattle.dsy_base.specs.declared.look.Look.{Ghosts as LookWords}
 use Rattle.dsy_base.specs.declared.view.View.{Ghosts as ViewWords}
-use Rattle.extract_command.proofs.AnyWords.{any_words}
 use Rattle.extract_command.proofs.Assembled.{had_of}
 use Rattle.extract_command.proofs.LentKits.{views_alike}
 use Rattle.extract_command.specs.Extract.{CanBeHad, Seeds}
 use Rattle.extract_command.specs.Kits.{AreOpened, IsKitOpened}
+use Rattle.extract_command.specs.declared.stores.Stores.{Stores}
 use Rattle.extract_plan.specs.Places.{IsSeedIndex}
 use Rattle.image_workers.specs.Kits.{AllKitsTell, AreKitsAlike, SomeKitHas}
 use Rattle.image_workers.specs.Shared.{all_stores}
 use Rattle.store_chain.specs.Giving.{SomeHolds}
+use Rattle.store_group.specs.Groups.{Grouped}
 
 -- told maps are one list
 same_maps : (xs ys : List (Map (List ℕ))) → map Some xs ≡ map Some ys → xs ≡ ys
@@ -63,44 +64,48 @@ one_of P (suc n) xs any = elim (either P xs (times n xs) any) [
   | inr later ↦ one_of P n xs later
 ]
 
-module _ {L V D K : Type 0} (look : LookWords L) (view : ViewWords V) (state : D → DialState) (d b : Disk) (names : List Location) (x : Seeds) (n : Map (Map (List ℕ))) (y : d.folders ≡ Some n) (fs : List (Map (List ℕ))) (there : map (location_files n) names ≡ map Some fs) where
-  abbrev IsOpen : Kit (AnyStore L D K) V → Type 0
+module _ {L V D K : Type 0} (look : LookWords L) (view : ViewWords V) (state : D → DialState) (d b : Disk) (names : Stores) (x : Seeds) (n : Map (Map (List ℕ))) (y : d.folders ≡ Some n) (fs : List (Map (List ℕ))) (there : map (group_files n) names.groups ≡ map Some fs) where
+  abbrev IsOpen : Kit (Grouped (AnyStore L D K)) V → Type 0
   IsOpen k = IsKitOpened look view state d b names x.images k
 
-  -- its stores hold the chunks of the folders
-  kit_holds : (k : Kit (AnyStore L D K) V) → IsOpen k → map (chunks_in look.files) k.chain.stores ≡ map Some (map chunks fs)
-  kit_holds k is =
-      let found : map (source_files look.files) k.chain.stores ≡ map (location_files n) names = subst (λ o. IfSome o (λ m. map (source_files look.files) k.chain.stores ≡ map (location_files m) names)) y is.found in
-      held_maps (source_files look.files) k.chain.stores fs (found ∙ there)
+  abbrev holds : Grouped (AnyStore L D K) → Option (Map (List ℕ))
+  holds = (group_words look state).holds
 
-  all_hold : (kits : List (Kit (AnyStore L D K) V)) → All IsOpen kits → map (chunks_in look.files) (all_stores kits) ≡ map Some (times (length kits) (map chunks fs))
+  -- its groups hold the chunks of the folders
+  kit_holds : (k : Kit (Grouped (AnyStore L D K)) V) → IsOpen k → map holds k.chain.stores ≡ map Some (map chunks fs)
+  kit_holds k is =
+      let told : map (told_files look.files) k.chain.stores ≡ map (group_files n) names.groups =
+      subst (λ o. IfSome o (λ m. map (told_files look.files) k.chain.stores ≡ map (group_files m) names.groups)) y (groups_tell look.files d.folders k.chain.stores names.groups is.found) in
+      groups_hold look.files k.chain.stores fs (told ∙ there)
+
+  all_hold : (kits : List (Kit (Grouped (AnyStore L D K)) V)) → All IsOpen kits → map holds (all_stores kits) ≡ map Some (times (length kits) (map chunks fs))
   all_hold [] are = refl
   all_hold (k ∷ kits) are =
       let maps = map chunks fs in
-      let first : map (chunks_in look.files) k.chain.stores ≡ map Some maps = kit_holds k (are 0 k (omega arith)) in
+      let first : map holds k.chain.stores ≡ map Some maps = kit_holds k (are 0 k (omega arith)) in
       let rest = all_hold kits (All-tail IsOpen k kits are) in
-      map-append (chunks_in look.files) k.chain.stores (all_stores kits)
-      ∙ ap (λ (l : List (Option (Map (List ℕ)))). l ++ map (chunks_in look.files) (all_stores kits)) first
+      map-append holds k.chain.stores (all_stores kits)
+      ∙ ap (λ (l : List (Option (Map (List ℕ)))). l ++ map holds (all_stores kits)) first
       ∙ ap (λ (l : List (Option (Map (List ℕ)))). map Some maps ++ l) rest
       ∙ sym (map-append Some maps (times (length kits) maps))
 
   -- what one of them holds is in the folders
-  pub all_held : (kits : List (Kit (AnyStore L D K) V)) → AreOpened look view state d b names x.images kits → (id c : List ℕ) → SomeHolds (chunks_in look.files) (all_stores kits) id c → Any (λ m. m id ≡ Some c) (map chunks fs)
+  pub all_held : (kits : List (Kit (Grouped (AnyStore L D K)) V)) → AreOpened look view state d b names x.images kits → (id c : List ℕ) → SomeHolds holds (all_stores kits) id c → Any (λ m. m id ≡ Some c) (map chunks fs)
   all_held kits are id c held = one_of (λ m. m id ≡ Some c) (length kits) (map chunks fs) (held (times (length kits) (map chunks fs)) (all_hold kits are))
 
-  pub kits_tell : (t : Task) (kits : List (Kit (AnyStore L D K) V)) → AreOpened look view state d b names x.images kits → IsTrue view.tells → AllKitsTell (any_words look state) view t kits
+  pub kits_tell : (t : Task) (kits : List (Kit (Grouped (AnyStore L D K)) V)) → AreOpened look view state d b names x.images kits → IsTrue view.tells → AllKitsTell (group_words look state) view t kits
   kits_tell t kits are tells = λ i k lt. (λ some. tells, (map chunks fs, kit_holds _ (are i k lt)))
 
   module _ (m : Map (List ℕ)) (told : d.files ≡ Some m) where
-    pub kits_alike : (t : Task) → ((q : List ℕ) → FileRose d b q → ⊥) → (kits : List (Kit (AnyStore L D K) V)) → AreOpened look view state d b names x.images kits → AreKitsAlike (any_words look state) view t kits
+    pub kits_alike : (t : Task) → ((q : List ℕ) → FileRose d b q → ⊥) → (kits : List (Kit (Grouped (AnyStore L D K)) V)) → AreOpened look view state d b names x.images kits → AreKitsAlike (group_words look state) view t kits
     kits_alike t quiet kits are = λ i q lt.
         let here = are i q lt in
         let first = are 0 q (omega (arith, lt)) in
         (views_alike d b m told quiet x.images _ _ here.viewed first.viewed, kit_holds _ here ∙ sym (kit_holds _ first))
 
     -- so an entry that can be had with one of them can be had
-    pub kit_had : (t : Task) (kits : List (Kit (AnyStore L D K) V)) → AreOpened look view state d b names x.images kits → IsSeedIndex t.listing t.plan x.listings t.places → (cached : List (Map (List ℕ))) (o : List ℕ) (i : ℕ) → i < count_of t.listing
-        → SomeKitHas (any_words look state) view t kits cached o i → CanBeHad t.listing (resized o (image_length t.listing)) m x (cached ++ map chunks fs) i
+    pub kit_had : (t : Task) (kits : List (Kit (Grouped (AnyStore L D K)) V)) → AreOpened look view state d b names x.images kits → IsSeedIndex t.listing t.plan x.listings t.places → (cached : List (Map (List ℕ))) (o : List ℕ) (i : ℕ) → i < count_of t.listing
+        → SomeKitHas (group_words look state) view t kits cached o i → CanBeHad t.listing (resized o (image_length t.listing)) m x (cached ++ map chunks fs) i
     kit_had t kits are is cached o i listed (j, k, lt, at, (maps, holds, has)) =
         let here : IsOpen k = subst IsOpen at (are j k lt) in
         let same : maps ≡ map chunks fs = same_maps maps (map chunks fs) (sym holds ∙ kit_holds k here) in

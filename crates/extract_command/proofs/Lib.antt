@@ -12,7 +12,7 @@ pub mod Seeded
 pub mod Shelved
 pub mod Spared
 pub mod Wrote
-pub mod AnyWords
+pub mod Tasks
 pub mod Unused
 pub mod UsedKits
 pub mod Using

@@ -1,5 +1,5 @@
 -- The entry, the store or the target that an assembly over lent folders names.
-use Rattle.std.proofs.Common.{ap, All, arith, ◌≤◌, ◌≡◌, ℕ, suc, List, [], ◌∷◌, length, map, slice_index, Option, Some, None, IfSome, IfErr, subst, ◌∙◌, sym, inl, inr, Result, Ok, Err}
+use Rattle.std.proofs.Common.{ap, refl, All, arith, ◌≤◌, ◌≡◌, ℕ, suc, List, [], ◌∷◌, length, map, slice_index, Option, Some, None, IfSome, IfErr, subst, ◌∙◌, sym, inl, inr, Result, Ok, Err}
 use Rattle.std.proofs.lemmas.List.Elements.{All-cons, All-nil}
 use Rattle.std.specs.List.{AllZip}
 use Rattle.assembler.specs.Assemblies.{IsUnobtained, RightAlike}
@@ -22,22 +22,27 @@ use Rattle.chunk_store.specs.declared.id.ChunkId.{ChunkId}
 use Rattle.chunk_store.specs.declared.store.Store.{Ghosts as StoreWords}
 use Rattle.chunk_store.specs.declared.shows.Shows.{Shows}
 use Rattle.command_words.specs.declared.command.Location.{Location}
-use Rattle.command_steps.proofs.Given.{Stands}
+use Rattle.command_groups.proofs.Lacked.{groups_lack}
+use Rattle.command_groups.proofs.Standing.{GroupStands}
+use Rattle.command_groups.specs.Groups.{first_store, group_files}
+use Rattle.command_groups.specs.Lacking.{GroupRose, GroupsLack, group_said}
 use Rattle.command_steps.proofs.Numbers.{rose_longer}
 use Rattle.command_steps.specs.Seeds.{name_at}
 use Rattle.command_steps.specs.Seeds.{IsViewed}
-use Rattle.command_steps.specs.Sources.{HaveLacked, Storage, StoreRose, said_at, location_files}
+use Rattle.command_steps.specs.Sources.{Storage}
 use Rattle.command_worlds.specs.Worlds.{FileRose}
 use Rattle.extract_command.proofs.Assembled.{AllLack, LackingOver, LostAs, OthersLack, StoreAs, TargetAs}
-use Rattle.command_steps.proofs.Lacked.{have_lacked, same_length}
+use Rattle.command_steps.proofs.Lacked.{same_length}
 use Rattle.extract_command.proofs.Seeded.{had_failed, label_of}
 use Rattle.extract_command.specs.Extract.{CacheLacksEntry, Into, Seeds, StopsFailed}
+use Rattle.extract_command.specs.declared.stores.Stores.{Stores}
 use Rattle.dsy_base.specs.Bytes.{Held, resized}
 use Rattle.dsy_base.specs.Counts.{Rose}
 use Rattle.dsy_base.specs.Disk.{Disk}
 use Rattle.dsy_base.specs.Maps.{Map}
 use Rattle.dsy_base.specs.declared.view.View.{Ghosts as ViewWords}
 use Rattle.extract_plan.specs.Places.{IsSeedIndex, places_at}
+use Rattle.store_chain.proofs.Pairs.{cons_head, cons_tail}
 use Rattle.store_chain.specs.Chains.{KeepsStores}
 use Rattle.store_chain.specs.Faults.{NoneFalls}
 use Rattle.store_chain.specs.declared.refused.Refused.{Refused}
@@ -124,26 +129,29 @@ module _ (P : Lost → Type 0) (F : Type 0) where
 keeps_twice : (a b c : Said) (id : List ℕ) → KeepsOf a b id → KeepsOf b c id → KeepsOf a c id
 keeps_twice a b c id u w = record { denied = λ h. w.denied (u.denied h); shown = λ x h. w.shown x (u.shown x h); longer = λ n h. w.longer n (u.longer n h); taken = λ x h. w.taken x (u.taken x h) }
 
--- stores that stand so later stood so before
-module _ {S : Type 0} (location : S → Location) (said : S → Said) (counted : S → ℕ) (w v : Storage) where
-  stood : (a b : List S) → map location b ≡ map location a → AllZip (λ x y. (q : List ℕ) → KeepsOf (said x) (said y) q) a b → NoneFalls (map counted a) (map counted b) → All (Stands location said counted w v) b → All (Stands location said counted w v) a
-  stood [] b same says le stand = All-nil (Stands location said counted w v)
+-- groups that stand so later stood so before
+module _ {S : Type 0} (location : S → List Location) (said : S → Said) (counted : S → ℕ) (retries : ℕ) (w v : Storage) where
+  abbrev Standing : S → Type 0
+  Standing = GroupStands location said counted retries w v
+
+  stood : (a b : List S) → map location b ≡ map location a → AllZip (λ x y. (q : List ℕ) → KeepsOf (said x) (said y) q) a b → NoneFalls (map counted a) (map counted b) → All Standing b → All Standing a
+  stood [] b same says le stand = All-nil Standing
   stood (x ∷ a) [] same says le stand = absurd (cc)
   stood (x ∷ a) (y ∷ b) same says le stand =
-      let here : location y ≡ location x = cc in
-      let rest : map location b ≡ map location a = cc in
+      let here = cons_head (location y) (location x) (map location b) (map location a) same in
+      let rest = cons_tail (location y) (location x) (map location b) (map location a) same in
       let more : counted x ≤ counted y = le 0 in
       let last = stand 0 y (omega arith) in
-      All-cons (Stands location said counted w v) x a
+      All-cons Standing x a
       (record {
-        says = λ id. keeps_twice (said x) (said y) (said_at w v (location x)) id (says.0 id) (subst (λ q. KeepsOf (said y) (said_at w v q) id) here (last.says id));
-        rises = λ rose. subst (StoreRose w v) here (last.rises (rose_longer 0 (counted x) (counted y) more rose));
+        says = λ id. keeps_twice (said x) (said y) (group_said w v (location x)) id (says.0 id) (subst (λ q. KeepsOf (said y) (group_said w v q) id) here (last.says id));
+        rises = λ rose. subst (GroupRose retries w v) here (last.rises (rose_longer 0 (counted x) (counted y) more rose));
       })
       (stood a b rest says.1 (λ k. le (suc k)) (λ j q lt. stand (suc j) q (omega (arith, lt))))
 
 -- ---- what a lost entry tells
 
-module _ {S V : Type 0} (store : StoreWords S) (location : S → Location) (view : ViewWords V) (t : Task) (w v : Storage) (stores : List Location) (cache : Option (List ℕ)) (out : Into) (seeds : Seeds) (t0 : Option (List ℕ)) (a b : origins.Sources S V) where
+module _ {S V : Type 0} (store : StoreWords S) (location : S → List Location) (view : ViewWords V) (t : Task) (w v : Storage) (stores : Stores) (cache : Option (List ℕ)) (out : Into) (seeds : Seeds) (t0 : Option (List ℕ)) (a b : origins.Sources S V) where
   abbrev d : Disk
   d = w.disk
 
@@ -176,32 +184,32 @@ module _ {S V : Type 0} (store : StoreWords S) (location : S → Location) (view
       gone u.entry h.cache,
     )
 
-  -- over stores that were given back: these stand so
-  module _ (kept : KeepsStores store (IsListedGet l) a.chain.stores b.chain.stores) (located : (ys : List S) → map store.place ys ≡ map store.place a.chain.stores → map location ys ≡ stores) (stand : All (Stands location store.said store.faults w v) b.chain.stores) where
-    -- how the stores stood when the entry's chunk was asked for
+  -- over groups that were given back: these stand so
+  module _ (kept : KeepsStores store (IsListedGet l) a.chain.stores b.chain.stores) (located : (ys : List S) → map store.place ys ≡ map store.place a.chain.stores → map location ys ≡ stores.groups) (stand : All (GroupStands location store.said store.faults stores.retries w v) b.chain.stores) where
+    -- how the groups stood when the entry's chunk was asked for
     record StoodAt (u : Lost) (h : IsLostHere u) : Type 0 where
       many : length h.stores.before ≡ length h.stores.after
-      at : map location h.stores.after ≡ stores
-      all : All (Stands location store.said store.faults w v) h.stores.after
+      at : map location h.stores.after ≡ stores.groups
+      all : All (GroupStands location store.said store.faults stores.retries w v) h.stores.after
 
     stood_at : (u : Lost) (h : IsLostHere u) → StoodAt u h
     stood_at u h =
         let r = h.stores in
         let placed : map store.place r.after ≡ map store.place a.chain.stores = sym r.since.places ∙ kept.places in
-        let here : map location r.after ≡ stores = located r.after placed in
+        let here : map location r.after ≡ stores.groups = located r.after placed in
         record {
           many = same_length store.place r.before r.after (r.until.places ∙ sym placed);
           at = here;
-          all = stood location store.said store.faults w v r.after b.chain.stores (located b.chain.stores kept.places ∙ sym here) r.since.says r.since.never_fall stand;
+          all = stood location store.said store.faults stores.retries w v r.after b.chain.stores (located b.chain.stores kept.places ∙ sym here) r.since.says r.since.never_fall stand;
         }
 
-    module _ (n : Map (Map (List ℕ))) (held : (fs : List (Map (List ℕ))) → map (location_files n) stores ≡ map Some fs → map store.holds a.chain.stores ≡ map Some (map chunks fs)) (rose : Rose a.faults b.faults → FileRose d e out.name) where
+    module _ (n : Map (Map (List ℕ))) (held : (fs : List (Map (List ℕ))) → map (group_files n) stores.groups ≡ map Some fs → map store.holds a.chain.stores ≡ map Some (map chunks fs)) (rose : Rose a.faults b.faults → FileRose d e out.name) where
       lacks_over : (o : List ℕ) (u : Lost) (h : IsLostHere u) → (RightAlike l (resized o (image_length l)) u.entry → Rose a.faults b.faults) → LackingOver w v stores cache out l seeds n o u.entry u.id u.refused
       lacks_over o u h copies =
           let s = stood_at u h in (
             h.listed,
             h.id_is,
-            have_lacked location store.said store.faults store.may_lack_memory w v stores (lost_want l u) u.refused h.stores.before h.stores.after s.many s.at s.all h.stores.refused.told,
+            groups_lack location store.said store.faults stores.retries w v stores.groups store.may_lack_memory (lost_want l u) u.refused h.stores.before h.stores.after s.many s.at s.all h.stores.refused.told,
             λ fs told. h.stores.refused.lacks (map chunks fs) (h.stores.until.held ∙ held fs told),
             λ r. rose (copies r),
           )
@@ -213,11 +221,11 @@ module _ {S V : Type 0} (store : StoreWords S) (location : S → Location) (view
           go None copies = tt
           go (Some o) copies = lost_as IsLostHere F (AllLack w v stores cache out l seeds files n o) (λ u z. (lacks_over o u z (copies u z), others u z)) r h
 
-    stopped_at : (u : Lost) (s : ℕ) → u.refused ≡ refused.StoreFault s → IsLostHere u → StopsFailed w v stores l s
+    stopped_at : (u : Lost) (s : ℕ) → u.refused ≡ refused.StoreFault s → IsLostHere u → StopsFailed w v stores l (first_store stores.groups s)
     stopped_at u s is h =
         let r = stood_at u h in
-        let said = have_lacked location store.said store.faults store.may_lack_memory w v stores (lost_want l u) u.refused h.stores.before h.stores.after r.many r.at r.all h.stores.refused.told in
-        (u.entry, u.id, h.listed, h.id_is, subst (λ (r : Refused). HaveLacked (lost_want l u) w v stores r) is said)
+        let said = groups_lack location store.said store.faults stores.retries w v stores.groups store.may_lack_memory (lost_want l u) u.refused h.stores.before h.stores.after r.many r.at r.all h.stores.refused.told in
+        (u.entry, u.id, h.listed, h.id_is, (refused.StoreFault s, refl, subst (λ (r : Refused). GroupsLack stores.retries (lost_want l u) w v stores.groups r) is said))
 
-    pub store_told : (F : Type 0) (r : Result Report ExtractFault) → EndsBy IsLostHere F r → IfErr r (StoreAs (StopsFailed w v stores l))
-    store_told F r h = store_as IsLostHere F (StopsFailed w v stores l) stopped_at r h
+    pub store_told : (F : Type 0) (r : Result Report ExtractFault) → EndsBy IsLostHere F r → IfErr r (StoreAs (λ s. StopsFailed w v stores l (first_store stores.groups s)))
+    store_told F r h = store_as IsLostHere F (λ s. StopsFailed w v stores l (first_store stores.groups s)) stopped_at r h

@@ -9,9 +9,9 @@ use Rattle.command_steps.specs.Seeds.{AllListed, IndexesRead, image_name}
 use Rattle.command_worlds.specs.Steps.{◌>>=◌, Passed}
 use Rattle.command_steps.specs.Sources.{Storage, storage}
 use Rattle.command_worlds.specs.Worlds.{Step, World, world}
-use Rattle.command_words.specs.declared.command.Location.{Location}
 use Rattle.extract_command.proofs.Seeded.{zipped_many}
 use Rattle.extract_command.specs.Held.{AllReached}
+use Rattle.extract_command.specs.declared.stores.Stores.{Stores}
 use Rattle.extract_command.specs.Extract.{ClearedAfter, Clearing, ExtractEnds, NeverFail, OutMade, temporary_out}
 use Rattle.dsy_base.specs.Disk.{Disk, Output}
 use Rattle.dsy_base.specs.Links.{DialState}
@@ -40,8 +40,8 @@ passed_any step next w (Ok b) v h = h
 passed_any step next w (Err o) v h = inr h
 
 -- OUT was made so after the steps before it
-pub ends_with : (sure : NeverFail) (stores : List Location) (cache : Option (List ℕ)) (seeds : List (List ℕ)) (place : Bool) (index out : List ℕ) (l : Listing) (ls : List Listing) (d b c m e : Disk) (i k j : DialState) (p : Output) (r : Result Unit Outcome)
-    → IndexGot index (storage d i) (Ok l) (storage b k) → IndexesRead seeds b (Ok ls) c → AllReached stores cache c (Ok tt) m → OutMade sure place stores cache out l (record { images = map image_name seeds; listings = ls }) (world m k p) r (world e j p)
+pub ends_with : (sure : NeverFail) (stores : Stores) (cache : Option (List ℕ)) (seeds : List (List ℕ)) (place : Bool) (index out : List ℕ) (l : Listing) (ls : List Listing) (d b c m e : Disk) (i k j : DialState) (p : Output) (r : Result Unit Outcome)
+    → IndexGot index (storage d i) (Ok l) (storage b k) → IndexesRead seeds b (Ok ls) c → AllReached stores.groups cache c (Ok tt) m → OutMade sure place stores cache out l (record { images = map image_name seeds; listings = ls }) (world m k p) r (world e j p)
     → ExtractEnds sure stores cache seeds place index out (world d i p) r (world e j p)
 ends_with sure stores cache seeds place index out l ls d b c m e i k j p r listed read reached made =
     passed_any _ _ (world d i p) r (world e j p) (record {
@@ -61,8 +61,8 @@ ends_with sure stores cache seeds place index out l ls d b c m e i k j p r liste
     })
 
 -- the stores or the cache weren't reached after the indexes were read
-pub ends_unreached : (sure : NeverFail) (stores : List Location) (cache : Option (List ℕ)) (seeds : List (List ℕ)) (place : Bool) (index out : List ℕ) (l : Listing) (ls : List Listing) (d b c e : Disk) (i k : DialState) (p : Output) (o : Outcome)
-    → IndexGot index (storage d i) (Ok l) (storage b k) → IndexesRead seeds b (Ok ls) c → AllReached stores cache c (Err o) e → ExtractEnds sure stores cache seeds place index out (world d i p) (Err o) (world e k p)
+pub ends_unreached : (sure : NeverFail) (stores : Stores) (cache : Option (List ℕ)) (seeds : List (List ℕ)) (place : Bool) (index out : List ℕ) (l : Listing) (ls : List Listing) (d b c e : Disk) (i k : DialState) (p : Output) (o : Outcome)
+    → IndexGot index (storage d i) (Ok l) (storage b k) → IndexesRead seeds b (Ok ls) c → AllReached stores.groups cache c (Err o) e → ExtractEnds sure stores cache seeds place index out (world d i p) (Err o) (world e k p)
 ends_unreached sure stores cache seeds place index out l ls d b c e i k p o listed read refused =
     inr (record {
       disk = b;

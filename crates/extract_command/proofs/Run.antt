@@ -1,5 +1,6 @@
 -- An assembly over kits that were lent to it, from the disk that stood before them to the one after all was given back.
 use Rattle.std.proofs.Common.{◌≡◌, ◌∙◌, ◌++◌, ℕ, suc, ◌+◌, ◌<◌, ◌≤◌, List, [], ◌∷◌, All, Bool, length, drop, map, slice_index, slice_index_or, IsTrue, is_some, Option, Some, None, IfSome, IsSomeAnd, Result, refl, sym, ap, subst, arith}
+use Rattle.std.proofs.lemmas.List.{length-map}
 use Rattle.std.proofs.lemmas.List.Elements.{All-cons}
 use Rattle.std.specs.List.{fold}
 use Rattle.std.specs.Map.{count_at}
@@ -20,12 +21,19 @@ use Rattle.chunk_store.specs.Folders.{chunks}
 use Rattle.chunk_store.specs.declared.store.Store.{Ghosts as StoreWords}
 use Rattle.command_steps.proofs.Cached.{given_adds, given_folders}
 use Rattle.command_steps.proofs.Dialed.{dials_none, dials_twice}
-use Rattle.command_steps.proofs.Found.{held_after, held_maps}
-use Rattle.command_steps.proofs.Given.{Stands, all_stand, folders_quiet, given_earlier, given_longer, stand_still}
+use Rattle.command_groups.proofs.Given.{group_given_earlier, group_given_longer}
+use Rattle.command_groups.proofs.Quiet.{groups_quiet}
+use Rattle.command_groups.proofs.Stand.{active_inside, folders_still, found_after, fresh_counts, groups_hold, groups_stand_still, groups_tell}
+use Rattle.command_groups.proofs.Standing.{GroupStands, all_groups_stand}
+use Rattle.command_groups.proofs.Words.{group_words}
+use Rattle.command_groups.specs.Asking.{GroupsDialed, WorkersGroupsDialed, with_retries}
+use Rattle.command_groups.specs.Groups.{group_files, stores_of}
+use Rattle.command_groups.specs.Numbers.{answer_of_stores}
+use Rattle.command_groups.specs.Opened.{IsGroupGiven, files_in, locations_in, told_files, with_group}
 use Rattle.command_steps.proofs.Lent.{each_quiet, store_rose}
 use Rattle.command_steps.proofs.Numbers.{given_quiet, given_rose, rose_longer, rose_not_quiet}
-use Rattle.command_steps.specs.AnyStores.{IsGiven, location_in, place_in, said_in, source_faults, source_files, with_those}
-use Rattle.command_steps.specs.Asking.{AsksFew, EachDialed, SendsFronts, WorkersDialed}
+use Rattle.command_steps.specs.AnyStores.{source_faults}
+use Rattle.command_steps.specs.Asking.{AsksFew, EachDialed, SendsFronts}
 use Rattle.command_steps.specs.Seeds.{name_at}
 use Rattle.command_steps.specs.Cache.{CacheGiven, folders_with, with_cache}
 use Rattle.command_steps.specs.Seeds.{label_in}
@@ -40,8 +48,7 @@ use Rattle.dsy_base.specs.Links.{DialState, Traffic}
 use Rattle.dsy_base.specs.Maps.{Map, at_name}
 use Rattle.dsy_base.specs.declared.look.Look.{Ghosts as LookWords}
 use Rattle.dsy_base.specs.declared.view.View.{Ghosts as ViewWords}
-use Rattle.extract_command.proofs.AnyWords.{any_words, task}
-use Rattle.extract_command.proofs.Asked.{kit_gets, kit_sends}
+use Rattle.extract_command.proofs.Asked.{kit_gets, kit_sends, kit_tries}
 use Rattle.extract_command.proofs.Assembled.{ExcusesAs, assembled, facts_of, given_excuses, had_of, obtainable_of}
 use Rattle.extract_command.proofs.First.{only_told}
 use Rattle.extract_command.proofs.Had.{kit_had, kits_alike, kits_tell}
@@ -51,10 +58,12 @@ use Rattle.extract_command.proofs.Plans.{seed_index_by}
 use Rattle.extract_command.proofs.Seeded.{label_of, labels_are, same_labels, zeros}
 use Rattle.extract_command.proofs.Shelved.{IsTold, cache_lacking, cache_quiet, cache_rose, cached_there, name_after, name_in, one_size}
 use Rattle.extract_command.proofs.Spared.{cache_gives}
+use Rattle.extract_command.proofs.Tasks.{task}
 use Rattle.extract_command.proofs.Unused.{none_reached}
 use Rattle.extract_command.proofs.Wrote.{wrote_back, wrote_on}
 use Rattle.extract_command.specs.Extract.{Assembled, CacheSpares, CanBeHad, GetsWants, Into, Seeds, Undisturbed, answer_of_assembly, folder_of, never_fail, old_of}
 use Rattle.extract_command.specs.Kits.{AreGivenBack, AreOpened, IsKitOpened}
+use Rattle.extract_command.specs.declared.stores.Stores.{Stores}
 use Rattle.extract_plan.specs.Deal.{Deal, IsPlan, first_of, want_id}
 use Rattle.extract_plan.specs.Places.{IsSeedIndex, Placed}
 use Rattle.extract_plan.specs.Seeds.{faults_in, seed_held}
@@ -66,6 +75,7 @@ use Rattle.image_workers.specs.Shared.{all_stores}
 use Rattle.range_ledger.specs.Fills.{WhereTold}
 use Rattle.range_survey.specs.Excuses.{Excuses}
 use Rattle.range_survey.specs.declared.report.Report.{Report}
+use Rattle.store_group.specs.Groups.{Grouped}
 
 -- the numbers of files and folders rise over the steps
 record Numbers (d b b2 m bc b3 b4 e : Disk) : Type 0 where
@@ -109,7 +119,7 @@ not_quiet : (d e : Disk) → DiskQuiet d e → (q : List ℕ) → FileRose d e q
 not_quiet d e quiet q rise = rose_not_quiet (count_at d.file_counts q) (count_at d.file_counts q) (count_at e.file_counts q) (omega arith) rise (quiet.files q)
 
 -- the data and the facts of it
-pub record IsRun {L V D : Type 0} (K : Type 0) (look : LookWords L) (view : ViewWords V) (state : D → DialState) (never cache_never : Bool) (d' : Disk) (e0 : Option Shelf) (k0 : DialState) (e : Disk) (k1 : DialState) (names : List Location) (images : List (List ℕ))
+pub record IsRun {L V D : Type 0} (K : Type 0) (look : LookWords L) (view : ViewWords V) (state : D → DialState) (never cache_never : Bool) (d' : Disk) (e0 : Option Shelf) (k0 : DialState) (e : Disk) (k1 : DialState) (names : Stores) (images : List (List ℕ))
     (cache : Option (List ℕ)) (out : Into) (l : Listing) (places : Placed) (r : Result Report ExtractFault) : Type 0 where
   pub b0 : Disk
   pub b : Disk
@@ -122,18 +132,18 @@ pub record IsRun {L V D : Type 0} (K : Type 0) (look : LookWords L) (view : View
   pub bytes : IfSome b.files (λ m. t0 ≡ Some (old_of m out))
   pub took : b2.files ≡ option_map (λ m. at_name m out.name None) b.files
   pub taken : OnFile b b2 out.name
-  pub k : Kit (AnyStore L D K) V
-  pub more : List (Kit (AnyStore L D K) V)
+  pub k : Kit (Grouped (AnyStore L D K)) V
+  pub more : List (Kit (Grouped (AnyStore L D K)) V)
   pub all : AreOpened look view state (with_cache e0 d') b names images (k ∷ more)
   pub deal : Deal
   pub planned : IsPlan l (length (k ∷ more)) deal
   pub t1 : Option (List ℕ)
   pub f1 : ℕ
   pub e1 : Option Shelf
-  pub j : Kit (AnyStore L D K) V
-  pub rest : List (Kit (AnyStore L D K) V)
+  pub j : Kit (Grouped (AnyStore L D K)) V
+  pub rest : List (Kit (Grouped (AnyStore L D K)) V)
   pub told : is_some t0 ≡ is_some t1
-  pub made : IsAssembledBy (any_words look state) view (task l deal places) never cache_never t0 t1 (lent f0 (k ∷ more) e0) (lent f1 (j ∷ rest) e1) r
+  pub made : IsAssembledBy (group_words look state) view (task l deal places) never cache_never t0 t1 (lent f0 (k ∷ more) e0) (lent f1 (j ∷ rest) e1) r
   pub first : Storage
   pub kits : AreGivenBack look view state rest (storage b2 k0) first
   pub bc : Disk
@@ -141,8 +151,8 @@ pub record IsRun {L V D : Type 0} (K : Type 0) (look : LookWords L) (view : View
   pub b4 : Disk
   pub shelf : CacheGiven e1 first.disk bc
   pub stores : Consults (storage bc first.dial) (storage b3 k1)
-  pub given : All (IsGiven look.place look.faults state (storage bc first.dial) (storage b3 k1)) j.chain.stores
-  pub ended : k1.ended ≡ fold (with_those state) first.dial.ended j.chain.stores
+  pub given : All (IsGroupGiven look.place look.faults state (storage bc first.dial) (storage b3 k1)) j.chain.stores
+  pub ended : k1.ended ≡ fold (with_group state) first.dial.ended j.chain.stores
   pub seeds : Reads b3 b4
   pub added : All (λ s. raised (count_at b3.file_counts (label_in view.held s)) (faults_in view.faults s) ≤ count_at b4.file_counts (label_in view.held s)) j.seeds.items
   pub put : GivesFile b4 e out.name f1
@@ -152,7 +162,7 @@ pub record IsRun {L V D : Type 0} (K : Type 0) (look : LookWords L) (view : View
   pub shelf_told : IsTold e0 d'.folders
   pub tells : (m : Map (List ℕ)) → d'.files ≡ Some m → IsTrue view.tells
 
-module _ {L V D K : Type 0} (look : LookWords L) (view : ViewWords V) (state : D → DialState) (never cache_never : Bool) (d' : Disk) (e0 : Option Shelf) (k0 : DialState) (e : Disk) (k1 : DialState) (names : List Location) (images : List (List ℕ))
+module _ {L V D K : Type 0} (look : LookWords L) (view : ViewWords V) (state : D → DialState) (never cache_never : Bool) (d' : Disk) (e0 : Option Shelf) (k0 : DialState) (e : Disk) (k1 : DialState) (names : Stores) (images : List (List ℕ))
     (cache : Option (List ℕ)) (out : Into) (l : Listing) (places : Placed) (r : Result Report ExtractFault) (x : IsRun K look view state never cache_never d' e0 k0 e k1 names images cache out l places r) where
   abbrev d : Disk
   d = with_cache e0 d'
@@ -163,16 +173,16 @@ module _ {L V D K : Type 0} (look : LookWords L) (view : ViewWords V) (state : D
   abbrev v : Storage
   v = storage e k1
 
-  abbrev words : StoreWords (AnyStore L D K)
-  words = any_words look state
+  abbrev words : StoreWords (Grouped (AnyStore L D K))
+  words = group_words look state
 
   abbrev t : Task
   t = task l x.deal places
 
-  abbrev before : Lent (AnyStore L D K) V
+  abbrev before : Lent (Grouped (AnyStore L D K)) V
   before = lent x.f0 (x.k ∷ x.more) e0
 
-  abbrev after : Lent (AnyStore L D K) V
+  abbrev after : Lent (Grouped (AnyStore L D K)) V
   after = lent x.f1 (x.j ∷ x.rest) x.e1
 
   abbrev W2 : Storage
@@ -238,13 +248,13 @@ module _ {L V D K : Type 0} (look : LookWords L) (view : ViewWords V) (state : D
   all_many : 1 + length x.rest ≡ length (x.k ∷ x.more)
   all_many = let many : length (x.j ∷ x.rest) ≡ length (x.k ∷ x.more) = x.made.kits in omega (arith, many)
 
-  abbrev Asked : (ℕ → Server → List Traffic → Type 0) → Type 0
-  Asked P = (i : ℕ) (q : Kit (AnyStore L D K) V) → i < length (x.j ∷ x.rest) → (a c : Option (List Traffic)) → c ≡ fold (with_those state) a (slice_index_or (x.j ∷ x.rest) i q).chain.stores → EachDialed (P i) names a c
+  abbrev Asked : (P Q : ℕ → Server → List Traffic → Type 0) → Type 0
+  Asked P Q = (i : ℕ) (q : Kit (Grouped (AnyStore L D K)) V) → i < length (x.j ∷ x.rest) → (a c : Option (List Traffic)) → c ≡ fold (with_group state) a (slice_index_or (x.j ∷ x.rest) i q).chain.stores → GroupsDialed (P i) (Q i) names.groups a c
 
-  all_dialed : (P : ℕ → Server → List Traffic → Type 0) → Asked P → WorkersDialed P (length (x.k ∷ x.more)) names k0.ended k1.ended
-  all_dialed P asked = subst (λ (m : ℕ). WorkersDialed P m names k0.ended k1.ended) all_many
-      (workers_dialed look view state P names 1 x.rest W2 x.first k1.ended x.kits (λ i q lt a c is.
-      let next : suc i ≡ 1 + i = omega arith in subst (λ (m : ℕ). EachDialed (P m) names a c) next (asked (suc i) q (omega (arith, lt)) a c is))
+  all_dialed : (P Q : ℕ → Server → List Traffic → Type 0) → Asked P Q → WorkersGroupsDialed P Q (length (x.k ∷ x.more)) names.groups k0.ended k1.ended
+  all_dialed P Q asked = subst (λ (m : ℕ). WorkersGroupsDialed P Q m names.groups k0.ended k1.ended) all_many
+      (workers_dialed look view state P Q names.groups 1 x.rest W2 x.first k1.ended x.kits (λ i q lt a c is.
+      let next : suc i ≡ 1 + i = omega arith in subst (λ (m : ℕ). GroupsDialed (P m) (Q m) names.groups a c) next (asked (suc i) q (omega (arith, lt)) a c is))
       (k1.ended, asked 0 x.j (first_less x.j x.rest) x.first.dial.ended k1.ended x.ended, refl))
 
   module _ (p : Deal) (ls : List Listing) (plan : IsPlan l 1 p) (is : IsSeedIndex l p ls places) where
@@ -262,23 +272,23 @@ module _ {L V D K : Type 0} (look : LookWords L) (view : ViewWords V) (state : D
       workers = length (x.k ∷ x.more);
       plan = x.deal;
       planned = x.planned;
-      gets = λ spared are. all_dialed (λ i. AsksFew method.Get (worker_asks l x.deal spared i)) (λ i q lt.
+      gets = λ spared are. all_dialed (λ i. AsksFew method.Get (with_retries names.retries (worker_asks l x.deal spared i))) (λ i. AsksFew method.Get (with_retries names.retries (worker_asks l x.deal spared i))) (λ i q lt.
           kit_gets look view state t d x.b e names never cache_never x.t0 i x.k q before after z (x.all i x.k (each_there i lt)) (x.made.each i x.k q (each_there i lt)) (added_all i q lt) (length (x.k ∷ x.more)) x.planned out is_here later took_bytes rose cache gives spared are);
-      sends = all_dialed (λ i. SendsFronts (IsListedGet l)) (λ i q lt. kit_sends look view state t d x.b e names never cache_never x.t0 i x.k q before after images (x.all i x.k (each_there i lt)) (x.made.each i x.k q (each_there i lt)));
+      sends = all_dialed (λ i. SendsFronts (IsListedGet l)) (λ i s ended. Unit {0}) (λ i q lt. kit_sends look view state t d x.b e names never cache_never x.t0 i x.k q before after images (x.all i x.k (each_there i lt)) (x.made.each i x.k q (each_there i lt)));
     }
 
     -- ---- what was assembled
 
-    abbrev from : origins.Sources (AnyStore L D K) V
+    abbrev from : origins.Sources (Grouped (AnyStore L D K)) V
     from = at_kit before 0 x.k
 
-    abbrev to : origins.Sources (AnyStore L D K) V
+    abbrev to : origins.Sources (Grouped (AnyStore L D K)) V
     to = at_kit after 0 x.j
 
-    abbrev was : List (AnyStore L D K)
+    abbrev was : List (Grouped (AnyStore L D K))
     was = x.k.chain.stores
 
-    abbrev now : List (AnyStore L D K)
+    abbrev now : List (Grouped (AnyStore L D K))
     now = x.j.chain.stores
 
     abbrev views : List (Option Held)
@@ -287,11 +297,11 @@ module _ {L V D K : Type 0} (look : LookWords L) (view : ViewWords V) (state : D
     abbrev labels : List (List ℕ)
     labels = map label_of views
 
-    abbrev location : AnyStore L D K → Location
-    location = location_in look.place
+    abbrev location : Grouped (AnyStore L D K) → List Location
+    location = locations_in look.place
 
-    abbrev files : AnyStore L D K → Option (Map (List ℕ))
-    files = source_files look.files
+    abbrev files : Grouped (AnyStore L D K) → Option (Map (List ℕ))
+    files = told_files look.files
 
     one : IsKitOpened look view state d x.b names images x.k
     one = x.all 0 x.k (first_less x.k x.more)
@@ -308,33 +318,49 @@ module _ {L V D K : Type 0} (look : LookWords L) (view : ViewWords V) (state : D
     rises : (i : ℕ) → Rose (slice_index (map (faults_in view.faults) x.k.seeds.items) i) (slice_index (map (faults_in view.faults) x.j.seeds.items) i) → FileRose d e (name_at labels i)
     rises = store_rose (faults_in view.faults) (label_in view.held) d'.file_counts x.b3.file_counts e.file_counts n.to_closed x.k.seeds.items x.j.seeds.items labels fresh_seeds labelled seeds_added
 
-    given_stores : All (IsGiven look.place look.faults state w v) now
-    given_stores i s lt = given_longer look.place look.faults state w (storage x.b3 k1) v n.from_closed (dials_twice k0 x.first.dial k1 kits_back.dial x.stores.dial) (dials_none k1) (slice_index_or now i s)
-        (given_earlier look.place look.faults state w (storage x.bc x.first.dial) (storage x.b3 k1) n.to_cached kits_back.dial x.stores.dial (slice_index_or now i s) (x.given i s lt))
+    given_stores : All (IsGroupGiven look.place look.faults state w v) now
+    given_stores i g lt = group_given_longer look.place look.faults state w (storage x.b3 k1) v n.from_closed (dials_twice k0 x.first.dial k1 kits_back.dial x.stores.dial) (dials_none k1) (slice_index_or now i g)
+        (group_given_earlier look.place look.faults state w (storage x.bc x.first.dial) (storage x.b3 k1) n.to_cached kits_back.dial x.stores.dial (slice_index_or now i g) (x.given i g lt))
 
-    located : (ys : List (AnyStore L D K)) → map (place_in look.place) ys ≡ map (place_in look.place) was → map location ys ≡ names
-    located ys placed = stand_still look.place was ys placed ∙ one.located
+    located : (ys : List (Grouped (AnyStore L D K))) → map words.place ys ≡ map words.place was → map location ys ≡ names.groups
+    located ys placed = groups_stand_still look.place was ys placed ∙ one.located
 
-    now_at : map location now ≡ names
+    now_at : map location now ≡ names.groups
     now_at = located now used.stores.places
 
-    stand : All (Stands location (said_in look.files state) (source_faults look.faults state) w v) now
-    stand = all_stand look.files look.place look.faults state w v now names now_at (held_after d.folders names files was now one.found used.stores.files) given_stores
+    tries : All (λ g. g.retries ≡ names.retries) now
+    tries = kit_tries look view state t d x.b e names never cache_never x.t0 0 x.k x.j before after images one used
 
-    rest_nothing : x.rest ≡ x.more → All (λ q. (a c : Option (List Traffic)) → c ≡ fold (with_those state) a q.chain.stores → EachDialed (λ s ended. ended ≡ []) names a c) x.rest
-    rest_nothing same = subst (λ (qs : List (Kit (AnyStore L D K) V)). All (λ q. (a c : Option (List Traffic)) → c ≡ fold (with_those state) a q.chain.stores → EachDialed (λ s ended. ended ≡ []) names a c) qs) (sym same)
-        (λ i q lt a c is. let here = x.all (suc i) q (omega (arith, lt)) in none_reached look.place state (slice_index_or x.more i q).chain.stores (slice_index_or x.more i q).chain.stores names a c here.unused refl here.located is)
+    found_now : IfSome d.folders (λ m. map (files_in look.files) now ≡ map (map (location_files m)) names.groups)
+    found_now = found_after look.files d.folders was now names.groups (folders_still look.place look.files state (IsListedGet l) was now (groups_stand_still look.place was now used.stores.places) used.stores.files used.stores.sends) one.found
 
-    unreached : (x.j ∷ x.rest ≡ x.k ∷ x.more) → EachDialed (λ s ended. ended ≡ []) names k0.ended k1.ended
+    stand : All (GroupStands location words.said words.faults names.retries w v) now
+    stand = all_groups_stand look.files look.place look.faults state names.retries w v now names.groups now_at found_now tries given_stores
+
+    -- what the groups tell
+    told : IfSome d.folders (λ m. map files was ≡ map (group_files m) names.groups)
+    told = groups_tell look.files d.folders was names.groups one.found
+
+    many : length was ≡ length names.groups
+    many = sym (length-map was location) ∙ ap length one.located
+
+    none_failed : map (λ g. g.failed) was ≡ map (λ q. 0) names.groups
+    none_failed = fresh_counts (source_faults look.faults state) names.retries was names.groups many one.fresh
+
+    rest_nothing : x.rest ≡ x.more → All (λ q. (a c : Option (List Traffic)) → c ≡ fold (with_group state) a q.chain.stores → EachDialed (λ s ended. ended ≡ []) (stores_of names.groups) a c) x.rest
+    rest_nothing same = subst (λ (qs : List (Kit (Grouped (AnyStore L D K)) V)). All (λ q. (a c : Option (List Traffic)) → c ≡ fold (with_group state) a q.chain.stores → EachDialed (λ s ended. ended ≡ []) (stores_of names.groups) a c) qs) (sym same)
+        (λ i q lt a c is. let here = x.all (suc i) q (omega (arith, lt)) in none_reached look.place state (slice_index_or x.more i q).chain.stores (slice_index_or x.more i q).chain.stores names.groups a c here.unused refl here.located is)
+
+    unreached : (x.j ∷ x.rest ≡ x.k ∷ x.more) → EachDialed (λ s ended. ended ≡ []) (stores_of names.groups) k0.ended k1.ended
     unreached same =
-        let heads : now ≡ was = ap (λ (qs : List (Kit (AnyStore L D K) V)). (slice_index_or qs 0 x.k).chain.stores) same in
+        let heads : now ≡ was = ap (λ (qs : List (Kit (Grouped (AnyStore L D K)) V)). (slice_index_or qs 0 x.k).chain.stores) same in
         let tails : x.rest ≡ x.more = ap (drop 1) same in
-        nothing_twice names k0.ended x.first.dial.ended k1.ended (given_nothing look view state names x.rest W2 x.first (rest_nothing tails) x.kits)
-        (none_reached look.place state was now names x.first.dial.ended k1.ended one.unused heads now_at x.ended)
+        nothing_twice (stores_of names.groups) k0.ended x.first.dial.ended k1.ended (given_nothing look view state (stores_of names.groups) x.rest W2 x.first (rest_nothing tails) x.kits)
+        (none_reached look.place state was now names.groups x.first.dial.ended k1.ended one.unused heads now_at x.ended)
 
     -- what is told, and what is quiet
     abbrev IsShown : List (Map (List ℕ)) → List (Map (List ℕ)) → Type 0
-    IsShown cached maps = (m : Map (Map (List ℕ))) × (d.folders ≡ Some m) × (fs : List (Map (List ℕ))) × (map (location_files m) names ≡ map Some fs) × (maps ≡ map chunks fs) × IsTrue view.tells × (cached_in e0 ≡ Some cached)
+    IsShown cached maps = (m : Map (Map (List ℕ))) × (d.folders ≡ Some m) × (fs : List (Map (List ℕ))) × (map (group_files m) names.groups ≡ map Some fs) × (maps ≡ map chunks fs) × IsTrue view.tells × (cached_in e0 ≡ Some cached)
 
     abbrev IsStill : List (Map (List ℕ)) → List (Map (List ℕ)) → Type 0
     IsStill cached maps = AreKitsAlike words view t (x.k ∷ x.more) × SourcesQuiet words view from to cached maps × HaveOneSize l e0 cached maps
@@ -345,7 +371,7 @@ module _ {L V D K : Type 0} (look : LookWords L) (view : ViewWords V) (state : D
         (λ y i lt has. subst (λ (q : List (Map (List ℕ))). CanBeHad l (resized y (image_length l)) m z (cached ++ q) i) (sym are) (kit_had look view state d x.b names z ns at fs at_fs m told t (x.k ∷ x.more) x.all is_here cached y i lt has))
         (x.made.had (kits_tell look view state d x.b names z ns at fs at_fs t (x.k ∷ x.more) x.all tells) cached shelved)
 
-    quiet : (m : Map (List ℕ)) → d'.files ≡ Some m → (ns : Map (Map (List ℕ))) → d.folders ≡ Some ns → (fs : List (Map (List ℕ))) → map (location_files ns) names ≡ map Some fs → map files was ≡ map Some fs → (cs : List (Map (List ℕ)))
+    quiet : (m : Map (List ℕ)) → d'.files ≡ Some m → (ns : Map (Map (List ℕ))) → d.folders ≡ Some ns → (fs : List (Map (List ℕ))) → map (group_files ns) names.groups ≡ map Some fs → map files was ≡ map Some fs → (cs : List (Map (List ℕ)))
         → cached_in e0 ≡ Some (map chunks cs) → Undisturbed d e cache l cs fs → IsStill (map chunks cs) (map chunks fs)
     quiet m told ns at fs at_fs looks cs shelved still = (
       kits_alike look view state d x.b names z ns at fs at_fs m told t (quiet_opened still.0) (x.k ∷ x.more) x.all,
@@ -355,22 +381,29 @@ module _ {L V D K : Type 0} (look : LookWords L) (view : ViewWords V) (state : D
         seeds = each_quiet (faults_in view.faults) (label_in view.held) d'.file_counts x.b3.file_counts e.file_counts n.to_closed x.k.seeds.items x.j.seeds.items labels fresh_seeds seeds_added still.0.files;
         told_cache = shelved;
         cache = cache_quiet d e x.first.disk x.bc n.reached n.from_cached (cache_faults e0) x.e1 x.sound x.shelf still.0;
-        told = held_maps files was fs looks;
-        stores = folders_quiet look.files look.place look.faults state w v names fs was now one.fresh (used.stores.files ∙ looks) given_stores still.0.folders;
+        told = groups_hold look.files was fs looks;
+        stores = groups_quiet look.files look.place look.faults state w v names.groups fs was now none_failed (used.stores.files ∙ looks) given_stores still.0.folders;
       },
       one_size e0 cache l (map chunks cs) (map chunks fs) x.named still.1,
     )
 
-    pub run_assembled : Assembled w v names cache out l z (answer_of_assembly r)
-    run_assembled = assembled w v names cache out l z r
+    -- the stores that are active afterwards
+    abbrev pub active : List ℕ
+    active = map (λ g. g.active) now
+
+    inside : (k : ℕ) → k < length names.groups → slice_index active k < length (slice_index_or names.groups k [])
+    inside = active_inside look.place now names.groups now_at (λ i g lt. (x.given i g lt).active)
+
+    pub run_assembled : Assembled w v names cache out l z (answer_of_stores names.groups active (answer_of_assembly r))
+    run_assembled = assembled w v names cache out l z active inside r
         (facts_of w v names cache out l z (λ maps base. IsObtainable t base views maps)
         (λ m told maps base i lt. had_of d x.b t z views one.viewed is_here m told base maps i lt)
         (λ m told still maps base i lt. obtainable_of d x.b t z views one.viewed is_here m told base maps i lt (quiet_opened still))
-        r (map files was) (λ cs. cached_in e0 ≡ Some (map chunks cs)) x.t0 x.t1 (NoneUsed before after) x.f0 x.f1 IsShown IsStill one.found there_before took_bytes x.told left excused
+        r (map files was) (λ cs. cached_in e0 ≡ Some (map chunks cs)) x.t0 x.t1 (NoneUsed before after) x.f0 x.f1 IsShown IsStill told there_before took_bytes x.told left excused
         (λ none. (unreached none.0, shelf_now ∙ ap (λ s. folders_with s d'.folders) none.1)) x.made.bytes
-        (λ m told ns y. lacks_told words location view t w v names cache out z x.t0 from to used.stores located stand ns
-        (λ fs at. held_maps files was fs (subst (λ o. IfSome o (λ m. map files was ≡ map (location_files m) names)) y one.found ∙ at)) rose m
-        (others_at words location view t w v names cache out z x.t0 from to x.b m told one.viewed is_here later rises (cache_lacking d e e0 x.e1 cache l d'.folders name_now shelf_now shelf_rose)) (Rose x.f0 x.f1) r (x.made.lost x.k x.j))
+        (λ m is_told ns y. lacks_told words location view t w v names cache out z x.t0 from to used.stores located stand ns
+        (λ fs at. groups_hold look.files was fs (subst (λ o. IfSome o (λ m. map files was ≡ map (group_files m) names.groups)) y told ∙ at)) rose m
+        (others_at words location view t w v names cache out z x.t0 from to x.b m is_told one.viewed is_here later rises (cache_lacking d e e0 x.e1 cache l d'.folders name_now shelf_now shelf_rose)) (Rose x.f0 x.f1) r (x.made.lost x.k x.j))
         only (λ cached maps q. x.made.exactly q.0 x.k x.j cached maps q.1 q.2) (λ cached maps q. x.made.after q.0 x.k x.j cached maps q.1 q.2)
         (λ m told ns at fs at_fs looks cs shelved. (ns, at, fs, at_fs, refl, x.tells m told, shelved)) quiet)
         (target_as _ (Rose x.f0 x.f1) (FileRose d e out.name) rose r (x.made.lost x.k x.j))

@@ -27,18 +27,21 @@ use Rattle.command_outcome.specs.declared.outcome.Outcome.{Outcome}
 use Rattle.command_outcome.specs.declared.outcome.Outcome.TheVariants as ends
 use Rattle.command_words.specs.declared.command.Location.{Location}
 use Rattle.dir_store.specs.Names.{is_stranger}
+use Rattle.extract_command.specs.declared.stores.Stores.{Stores}
 use Rattle.dsy_base.specs.Bytes.{resized}
 use Rattle.dsy_base.specs.Counts.{Quiet}
 use Rattle.dsy_base.specs.Maps.{Map, at_name}
 use Rattle.dsy_base.specs.declared.fault.IoFault.{IoFault}
 use Rattle.dsy_base.specs.declared.fault.IoFault.TheVariants as io
-use Rattle.command_steps.specs.Asking.{AsksFew, EachDialed, SendsFronts, WorkersDialed}
+use Rattle.command_groups.specs.Asking.{WorkersGroupsDialed, with_retries}
+use Rattle.command_groups.specs.Groups.{group_files, stores_of}
+use Rattle.command_groups.specs.Lacking.{HaveLackedIn}
+use Rattle.command_steps.specs.Asking.{AsksFew, EachDialed, SendsFronts}
 use Rattle.command_steps.specs.Cache.{CacheOpened}
 use Rattle.command_indexes.specs.Gets.{IndexGot}
 use Rattle.command_steps.specs.Seeds.{IndexesRead, image_name}
 use Rattle.command_worlds.specs.Steps.{◌>>=◌}
-use Rattle.command_steps.specs.Sources.{DialsStores, HaveLacked, NotAsking, OnStorage, Storage}
-use Rattle.command_steps.specs.Sources.{SourcesOpened, storage, location_files}
+use Rattle.command_steps.specs.Sources.{DialsStores, NotAsking, OnStorage, SourcesOpened, Storage, storage}
 use Rattle.command_steps.specs.Uses.{Uses, folders_among}
 use Rattle.command_worlds.specs.Worlds.{DiskQuiet, FileRose, FolderRose, OnDisk, Step, World}
 use Rattle.dsy_base.specs.Disk.{Disk, OnFile}
@@ -124,8 +127,8 @@ abbrev pub NoneAsked : Storage → Storage → Type 0
 NoneAsked w v = (v.dial ≡ w.dial) × (v.disk.folders ≡ w.disk.folders)
 
 -- no connection to a server has ended, and no folder has changed
-abbrev pub NoneReached : Storage → Storage → List Location → Type 0
-NoneReached w v stores = EachDialed (λ s ended. ended ≡ []) stores w.dial.ended v.dial.ended
+abbrev pub NoneReached : Storage → Storage → Stores → Type 0
+NoneReached w v stores = EachDialed (λ s ended. ended ≡ []) (stores_of stores.groups) w.dial.ended v.dial.ended
     × (v.disk.folders ≡ w.disk.folders)
 
 -- what stands there where no entry is named: it wasn't taken, before which no source is asked; or it has what it began
@@ -141,13 +144,13 @@ CacheLacksEntry d e None l k = Unit {0}
 CacheLacksEntry d e (Some c) l k = IfSome e.folders (λ n. IfSome (n c) (λ g.
     GivesChunk (kind_of l) (id_of l k) (size_of l k) (chunks g (id_of l k)) → FolderRose d e c))
 
--- so it is where all stores are folders of these, whose files are told
-abbrev pub WhereFolders : Map (Map (List ℕ)) → List Location → (List (Map (List ℕ)) → Type 0) → Type 0
-WhereFolders n stores P = (fs : List (Map (List ℕ))) → map (location_files n) stores ≡ map Some fs → P fs
+-- so it is where each group is one store, a folder of these, whose files are told
+abbrev pub WhereFolders : Map (Map (List ℕ)) → Stores → (List (Map (List ℕ)) → Type 0) → Type 0
+WhereFolders n stores P = (fs : List (Map (List ℕ))) → map (group_files n) stores.groups ≡ map Some fs → P fs
 
 -- where stores are folders, each entry can be had, or has the base's bytes in t, unless a write to it failed; whatever
 -- else fails
-abbrev pub OnlyHad : Disk → Disk → Map (List ℕ) → Map (Map (List ℕ)) → List (Map (List ℕ)) → List Location → Into
+abbrev pub OnlyHad : Disk → Disk → Map (List ℕ) → Map (Map (List ℕ)) → List (Map (List ℕ)) → Stores → Into
     → Listing → Seeds → List ℕ → Type 0
 OnlyHad d e before n cs stores out l x t = WhereFolders n stores (λ fs.
     IsObtainableOrBase l (HadFrom before out l x cs fs) (count_at d.file_counts out.name)
@@ -156,10 +159,10 @@ OnlyHad d e before n cs stores out l x t = WhereFolders n stores (λ fs.
 -- the chunk of entry k can't be had from the stores, for this reason; an alike entry that is right in the base
 -- couldn't be read, and no seed that has the chunk; and the cache doesn't give it. n are the folders
 pub record IsLacking (w v : Storage) (before : Map (List ℕ)) (n : Map (Map (List ℕ))) (cache : Option (List ℕ))
-    (out : Into) (l : Listing) (x : Seeds) (stores : List Location) (k : ℕ) (id : ChunkId) (r : Refused) : Type 0 where
+    (out : Into) (l : Listing) (x : Seeds) (stores : Stores) (k : ℕ) (id : ChunkId) (r : Refused) : Type 0 where
   pub listed : k < count_of l
   pub id_is : id.0 ≡ id_of l k
-  pub said : HaveLacked (chunk_of (kind_of l) id (size_of l k)) w v stores r
+  pub said : HaveLackedIn stores.retries (chunk_of (kind_of l) id (size_of l k)) w v stores.groups r
   pub lacks : WhereFolders n stores (λ fs. LacksAll (chunk_of (kind_of l) id (size_of l k)) (map chunks fs) r)
   pub copies : RightAlike l (base_of before out l) k → FileRose w.disk v.disk out.name
   pub seeds : (s : ℕ) (h : SeedHas (kind_of l) before x (id_of l k) (size_of l k) s) → FileRose w.disk v.disk h.image
@@ -170,9 +173,9 @@ abbrev pub folder_of : Option (List ℕ) → List (List ℕ)
 folder_of None = []
 folder_of (Some name) = name ∷ []
 
--- with those of stores
-abbrev pub folders_reached : Option (List ℕ) → List Location → List (List ℕ)
-folders_reached cache stores = folder_of cache ++ folders_among stores
+-- with those of the stores of groups
+abbrev pub folders_reached : Option (List ℕ) → List (List Location) → List (List ℕ)
+folders_reached cache groups = folder_of cache ++ folders_among (stores_of groups)
 
 -- so it is where files and folders are told; these are the folders, and the files of the cache's
 abbrev pub Told : Disk → Disk → Option (List ℕ)
@@ -188,7 +191,7 @@ Undisturbed d e cache l cs fs = DiskQuiet d e
 
 -- entry k is named, for this reason, each before it is right, and what isn't the base's can be had. Where stores are
 -- folders, undisturbed, k is the least that can't be had, and each that can be had was made right
-abbrev pub StopsLacking : Storage → Storage → List Location → Option (List ℕ) → Into → Listing → Seeds → ℕ → ChunkId
+abbrev pub StopsLacking : Storage → Storage → Stores → Option (List ℕ) → Into → Listing → Seeds → ℕ → ChunkId
     → Refused → Type 0
 StopsLacking w v stores cache out l x k id r = Told w.disk v.disk cache (λ b a n cs.
     ((t : List ℕ) × KeepsIn w.disk v.disk b a out l t × ((i : ℕ) → i < k → IsRightAt t l i)
@@ -199,15 +202,15 @@ StopsLacking w v stores cache out l x k id r = Told w.disk v.disk cache (λ b a 
     × WhereFolders n stores (λ fs. Undisturbed w.disk v.disk cache l cs fs → IsLeast (HadFrom b out l x cs fs) k))
 
 -- the first store that failed is named, where no store gave the chunk of some entry
-abbrev pub StopsFailed : Storage → Storage → List Location → Listing → ℕ → Type 0
+abbrev pub StopsFailed : Storage → Storage → Stores → Listing → ℕ → Type 0
 StopsFailed w v stores l s = (k : ℕ) × (id : ChunkId) × (k < count_of l) × (id.0 ≡ id_of l k)
-    × HaveLacked (chunk_of (kind_of l) id (size_of l k)) w v stores (refused.StoreFault s)
+    × HaveLackedIn stores.retries (chunk_of (kind_of l) id (size_of l k)) w v stores.groups (refused.StoreFault s)
 
 -- the file became the image of the index, with chunks from the seeds, the cache and the stores, or why not. Where
 -- stores are folders, it does so only where each entry can be had, and undisturbed exactly there; else the first that
 -- can't be had is named. A store that failed is named only where some entry can't be had from the seeds or the cache
 -- either
-abbrev pub Assembled : Storage → Storage → List Location → Option (List ℕ) → Into → Listing → Seeds
+abbrev pub Assembled : Storage → Storage → Stores → Option (List ℕ) → Into → Listing → Seeds
     → Result Unit Outcome → Type 0
 Assembled w v stores cache out l x (Ok u) = Told w.disk v.disk cache (λ b a n cs.
     ((t : List ℕ) × KeepsIn w.disk v.disk b a out l t × IsRight t l)
@@ -253,28 +256,28 @@ answer_of_taking io.Memory = Err ends.Memory
 -- ---- what is added to the cache
 
 -- the bytes are the chunk of an entry; where stores are folders of these, one of them holds it
-abbrev pub IsForCache : Listing → Map (Map (List ℕ)) → List Location → List ℕ → List ℕ → Type 0
+abbrev pub IsForCache : Listing → Map (Map (List ℕ)) → Stores → List ℕ → List ℕ → Type 0
 IsForCache l n stores id b = (i : ℕ) × (i < count_of l) × (id ≡ id_of l i)
     × IsChunk (kind_of l) (id_of l i) (size_of l i) b
     × WhereFolders n stores (λ fs. Any (λ m. m (id_of l i) ≡ Some b) (map chunks fs))
 
 -- chunks were added to a folder: under each id it holds what it held, or such bytes. Each file that is neither a
 -- chunk's nor a temporary one stands as before
-pub record CacheGrows (l : Listing) (n : Map (Map (List ℕ))) (stores : List Location) (old new : Map (List ℕ))
+pub record CacheGrows (l : Listing) (n : Map (Map (List ℕ))) (stores : Stores) (old new : Map (List ℕ))
     : Type 0 where
   pub held : (id : List ℕ) → (chunks new id ≡ chunks old id)
       ⊎ ((b : List ℕ) × (chunks new id ≡ Some b) × IsForCache l n stores id b)
   pub strangers : (q : List ℕ) → IsTrue (is_stranger q) → new q ≡ old q
 
 -- no folder but the cache's has changed, and that one so
-abbrev pub CacheFilled : List Location → Option (List ℕ) → Listing → Disk → Disk → Type 0
+abbrev pub CacheFilled : Stores → Option (List ℕ) → Listing → Disk → Disk → Type 0
 CacheFilled stores None l d e = e.folders ≡ d.folders
 CacheFilled stores (Some c) l d e = (is_some e.folders ≡ is_some d.folders) × IfSome d.folders (λ m.
     IfSome e.folders (λ n. (f : Map (List ℕ)) × (m c ≡ Some f) × (g : Map (List ℕ)) × (n ≡ at_name m c (Some g))
     × CacheGrows l m stores f g))
 
 -- a disk whose files were written, and the cache's folder. No number falls
-pub record FillsCache (stores : List Location) (cache : Option (List ℕ)) (l : Listing) (d e : Disk) : Type 0 where
+pub record FillsCache (stores : Stores) (cache : Option (List ℕ)) (l : Listing) (d e : Disk) : Type 0 where
   pub folders : CacheFilled stores cache l d e
   pub counts : (q : List ℕ) → count_at d.file_counts q ≤ count_at e.file_counts q
   pub folder_counts : (q : List ℕ) → count_at d.folder_counts q ≤ count_at e.folder_counts q
@@ -321,18 +324,22 @@ IsSparedOnDisk sure workers d e before cache out l x p w =
     × AllKnow workers sure.cache))
 
 -- each worker asks each server for the chunk of an id at most once for each want of that id that it is dealt and that
--- isn't spared, and the first worker once more for each want of that id that isn't spared; and each sends nothing but
--- fronts of requests for chunks that the index lists. All workers know of a fault of OUT, or of the cache, where there
--- is one worker, or where no call on it ever fails, as `sure` says
-pub record GetsWants (sure : NeverFail) (w v : Storage) (stores : List Location) (cache : Option (List ℕ)) (out : Into)
+-- isn't spared, and the first worker once more for each want of that id that isn't spared; each time as often again as
+-- there are retries. A server that is a group of its own is sent nothing but fronts of requests for chunks that the
+-- index lists. All workers know of a fault of OUT, or of the cache, where there is one worker, or where no call on it
+-- ever fails, as `sure` says
+pub record GetsWants (sure : NeverFail) (w v : Storage) (stores : Stores) (cache : Option (List ℕ)) (out : Into)
     (l : Listing) (x : Seeds) : Type 0 where
   pub workers : ℕ
   pub plan : Deal
   pub planned : IsPlan l workers plan
   pub gets : (spared : ℕ → Bool) → ((i : ℕ) → i < plan.wants → spared i ≡ true → IsSomeAnd w.disk.files
       (λ b. IsSparedOnDisk sure workers w.disk v.disk b cache out l x plan i)) →
-      WorkersDialed (λ k. AsksFew method.Get (worker_asks l plan spared k)) workers stores w.dial.ended v.dial.ended
-  pub sends : WorkersDialed (λ k. SendsFronts (IsListedGet l)) workers stores w.dial.ended v.dial.ended
+      WorkersGroupsDialed (λ k. AsksFew method.Get (with_retries stores.retries (worker_asks l plan spared k)))
+      (λ k. AsksFew method.Get (with_retries stores.retries (worker_asks l plan spared k))) workers stores.groups
+      w.dial.ended v.dial.ended
+  pub sends : WorkersGroupsDialed (λ k. SendsFronts (IsListedGet l)) (λ k s ended. Unit {0}) workers stores.groups
+      w.dial.ended v.dial.ended
 
 -- ---- making the image
 
@@ -342,13 +349,13 @@ IsNumbered name d r e = IsSome (e.file_counts name) ⊎ ((r ≡ Err ends.Memory)
 
 -- files tell afterwards where they told before. The file, the images of seeds, the cache's folder and those of stores
 -- alone were used
-abbrev pub ImageMade : NeverFail → List Location → Option (List ℕ) → Into → Listing → Seeds → Step Storage Unit
+abbrev pub ImageMade : NeverFail → Stores → Option (List ℕ) → Into → Listing → Seeds → Step Storage Unit
 ImageMade sure stores cache out l x w r v = Assembled w v stores cache out l x r
     × FillsCache stores cache l w.disk v.disk
-    × (is_some v.disk.files ≡ is_some w.disk.files) × DialsStores stores w.dial v.dial
+    × (is_some v.disk.files ≡ is_some w.disk.files) × DialsStores (stores_of stores.groups) w.dial v.dial
     × IsNumbered out.name w.disk r v.disk
     × GetsWants sure w v stores cache out l x
-    × Uses (out.name ∷ x.images) (folders_reached cache stores) w.disk v.disk
+    × Uses (out.name ∷ x.images) (folders_reached cache stores.groups) w.disk v.disk
 
 -- ---- by way of a temporary file
 
@@ -398,18 +405,18 @@ Renamed from to d (Ok u) e =
 Renamed from to d (Err o) e = NotRenamed from to d o e × (e.files ≡ d.files) × OnFile d e to
 
 -- OUT becomes the image: it is made it in its place; or the temporary file is, and takes OUT's name
-abbrev pub OutMade : NeverFail → Bool → List Location → Option (List ℕ) → List ℕ → Listing → Seeds → Step World Unit
+abbrev pub OutMade : NeverFail → Bool → Stores → Option (List ℕ) → List ℕ → Listing → Seeds → Step World Unit
 OutMade sure true stores cache out l x = OnStorage (ImageMade sure stores cache (in_place out) l x)
 OutMade sure false stores cache out l x = do
   _ ← OnStorage (Clearing (temporary_out out) (ImageMade sure stores cache (beside out) l x))
   OnStorage (Clearing (temporary_out out) (NotAsking (Renamed (temporary_out out) out)))
 
 -- while the cache is used its folder counts as there. `sure` says whether calls on OUT, or on the cache, never fail
-abbrev pub ExtractEnds : NeverFail → List Location → Option (List ℕ) → List (List ℕ) → Bool → List ℕ → List ℕ
+abbrev pub ExtractEnds : NeverFail → Stores → Option (List ℕ) → List (List ℕ) → Bool → List ℕ → List ℕ
     → Step World Unit
 ExtractEnds sure stores cache seeds in_place index out = do
   l ← OnStorage (IndexGot index)
   ls ← OnDisk (IndexesRead seeds)
-  _ ← OnDisk (SourcesOpened stores)
-  _ ← OnDisk (CacheOpened stores cache)
+  _ ← OnDisk (SourcesOpened (stores_of stores.groups))
+  _ ← OnDisk (CacheOpened (stores_of stores.groups) cache)
   OutMade sure in_place stores cache out l (record { images = map image_name seeds; listings = ls })

@@ -7,8 +7,9 @@ use Rattle.std.specs.Option.{option_map}
 use Rattle.chunk_sources.specs.Caches.{seen}
 use Rattle.chunk_sources.specs.declared.kit.Kit.{Kit}
 use Rattle.chunk_store.specs.declared.id.DigestKind.{DigestKind}
-use Rattle.command_steps.specs.AnyStores.{IsGiven, IsKnown, IsUnused, source_faults, source_files, location_in}
-use Rattle.command_steps.specs.AnyStores.{with_those}
+use Rattle.command_groups.specs.Groups.{stores_of}
+use Rattle.command_groups.specs.Opened.{AreUnused, IsFresh, IsGroupGiven, files_in, locations_in, with_group}
+use Rattle.command_steps.specs.AnyStores.{IsKnown, source_faults}
 use Rattle.command_steps.specs.Cache.{CacheGiven, CacheOpened, with_cache}
 use Rattle.command_steps.specs.Seeds.{SeedsKnown, label_in}
 use Rattle.command_steps.specs.Sources.{ConsultsStores, Storage, SourcesOpened, storage, location_files}
@@ -25,29 +26,31 @@ use Rattle.extract_plan.specs.Seeds.{faults_in, seed_held}
 use Rattle.extract_command.specs.Extract.{folders_reached}
 use Rattle.extract_command.specs.Kits.{AreGivenBack, AreNamesOf, CanGiveKit, UsesNames}
 use Rattle.extract_command.specs.declared.held.Held.{Held}
+use Rattle.store_group.specs.Groups.{Grouped}
 
 -- the stores were opened, and then the cache's folder was reached
-abbrev pub AllReached : List Location → Option (List ℕ) → Step Disk Unit
-AllReached stores cache d (Ok u) e = (m : Disk) × SourcesOpened stores d (Ok u) m × CacheOpened stores cache m (Ok u) e
-AllReached stores cache d (Err o) e = SourcesOpened stores d (Err o) e
-    ⊎ ((m : Disk) × SourcesOpened stores d (Ok tt) m × CacheOpened stores cache m (Err o) e)
+abbrev pub AllReached : List (List Location) → Option (List ℕ) → Step Disk Unit
+AllReached groups cache d (Ok u) e =
+    (m : Disk) × SourcesOpened (stores_of groups) d (Ok u) m × CacheOpened (stores_of groups) cache m (Ok u) e
+AllReached groups cache d (Err o) e = SourcesOpened (stores_of groups) d (Err o) e
+    ⊎ ((m : Disk) × SourcesOpened (stores_of groups) d (Ok tt) m × CacheOpened (stores_of groups) cache m (Err o) e)
 
--- the words that name its stores
-abbrev pub stores_of : {L W V D K : Type 0} → LookWords L → Held L W V D K → List Location
-stores_of look h = map (location_in look.place) h.stores.items
+-- the words that name its stores, in groups
+abbrev pub groups_of : {L W V D K : Type 0} → LookWords L → Held L W V D K → List (List Location)
+groups_of look h = map (locations_in look.place) h.stores.items
 
 -- the disk with the cache's folder in its place again
 abbrev pub disk_with : {L W V D K : Type 0} → LookWords W → Held L W V D K → Disk → Disk
 disk_with folder h d = with_cache (seen folder h.shelf) d
 
 -- the kits of the further workers
-abbrev pub further_kits : {L W V D K : Type 0} → Held L W V D K → List (Kit (AnyStore L D K) V)
+abbrev pub further_kits : {L W V D K : Type 0} → Held L W V D K → List (Kit (Grouped (AnyStore L D K)) V)
 further_kits h = h.kits.items
 
 -- all of it can be given back
 pub record CanBeGiven {L W V D K : Type 0} (look : LookWords L) (folder : LookWords W) (view : ViewWords V) (d : Disk)
     (h : Held L W V D K) : Type 0 where
-  pub stores : All (IsKnown d.folder_counts) (stores_of look h)
+  pub stores : All (IsKnown d.folder_counts) (stores_of (groups_of look h))
   pub named : option_map (λ s. folder.place s.folder) h.shelf ≡ h.cache
   pub cache : IfSome h.cache (λ q. IsSome (d.folder_counts q))
   pub seeds : SeedsKnown view.held d.file_counts h.seeds.items
@@ -57,18 +60,19 @@ pub record CanBeGiven {L W V D K : Type 0} (look : LookWords L) (folder : LookWo
 pub record HasNames {L W V D K : Type 0} (look : LookWords L) (view : ViewWords V) (images : List (List ℕ))
     (h : Held L W V D K) : Type 0 where
   pub seeds : AreNamesOf images (names_among (map (seed_held view.held) h.seeds.items))
-  pub kits : All (UsesNames look view images (folders_among (stores_of look h))) (further_kits h)
+  pub kits : All (UsesNames look view images (folders_among (stores_of (groups_of look h)))) (further_kits h)
 
--- it was just reached: nothing was asked and nothing failed yet, the cache's folder is taken, whose chunks are named by
--- this kind of digest, no seed and no kit is open, and there is room for this number of kits
+-- it was just reached: nothing was asked and nothing failed yet, a call on a store that fails is made so often again,
+-- the cache's folder is taken, whose chunks are named by this kind of digest, no seed and no kit is open, and there is
+-- room for this number of kits
 pub record JustReached {L W V D K : Type 0} (look : LookWords L) (folder : LookWords W) (view : ViewWords V)
-    (state : D → DialState) (d : Disk) (workers : ℕ) (kind : DigestKind) (h : Held L W V D K) : Type 0 where
+    (state : D → DialState) (d : Disk) (retries workers : ℕ) (kind : DigestKind) (h : Held L W V D K) : Type 0 where
   pub lent : CanBeGiven look folder view d h
-  pub unused : All (IsUnused state) h.stores.items
-  pub fresh : map (source_faults look.faults state) h.stores.items ≡ map (λ q. 0) (stores_of look h)
+  pub unused : All (AreUnused state) h.stores.items
+  pub fresh : All (IsFresh (source_faults look.faults state) retries) h.stores.items
   pub shelf : IfSome h.shelf (λ s. (folder.faults s.folder ≡ 0) × (s.kind ≡ kind))
   pub found : IfSome (disk_with folder h d).folders (λ m.
-      map (source_files look.files) h.stores.items ≡ map (location_files m) (stores_of look h))
+      map (files_in look.files) h.stores.items ≡ map (map (location_files m)) (groups_of look h))
   pub gone : IfSome h.cache (λ q. IfSome d.folders (λ m. m q ≡ None))
   pub none : h.seeds.items ≡ []
   pub room : (h.kits.items ≡ []) × (workers ≤ vec_capacity h.kits)
@@ -82,14 +86,14 @@ pub record IsGivenBack {L W V D K : Type 0} (look : LookWords L) (folder : LookW
   pub cached : Disk
   pub cache : CacheGiven (seen folder h.shelf) first.disk cached
   pub closed : Disk
-  pub stores : ConsultsStores (stores_of look h) (storage cached first.dial) (storage closed v.dial)
+  pub stores : ConsultsStores (stores_of (groups_of look h)) (storage cached first.dial) (storage closed v.dial)
   pub counts : closed.file_counts ≡ cached.file_counts
-  pub given : All (IsGiven look.place look.faults state (storage cached first.dial) (storage closed v.dial))
+  pub given : All (IsGroupGiven look.place look.faults state (storage cached first.dial) (storage closed v.dial))
       h.stores.items
-  pub ended : v.dial.ended ≡ fold (with_those state) first.dial.ended h.stores.items
+  pub ended : v.dial.ended ≡ fold (with_group state) first.dial.ended h.stores.items
   pub seeds : Reads closed v.disk
   pub used : (images : List (List ℕ)) → HasNames look view images h
-      → Uses images (folders_reached h.cache (stores_of look h)) w.disk v.disk
+      → Uses images (folders_reached h.cache (groups_of look h)) w.disk v.disk
   pub folder_counts : v.disk.folder_counts ≡ closed.folder_counts
   pub added : All (λ s. raised (count_at closed.file_counts (label_in view.held s)) (faults_in view.faults s)
       ≤ count_at v.disk.file_counts (label_in view.held s)) h.seeds.items

@@ -1,9 +1,10 @@
-//! `extract [-k] -s STORE.. -c FOLDER --seed INDEX.. INDEX OUT`: OUT becomes the image that INDEX lists, with chunks
-//! from up to 64 seeds, from a cache and from 1 to 16 stores.
+//! `extract [-k] -s STORE.. -e N -c FOLDER --seed INDEX.. INDEX OUT`: OUT becomes the image that INDEX lists, with
+//! chunks from up to 64 seeds, from a cache and from 1 to 16 stores, which stand in groups.
 
 ghost use Rattle.std.specs.Prelude.{◌≡◌, ◌≢◌, ℕ, List, ◌∷◌, ◌<◌, ◌≤◌, ◌^◌, map, IfOk, IsSome, length, is_some};
 ghost use Rattle.std.specs.Prelude.{string_bytes, true, false};
 ghost use Rattle.caibx_codec.specs.Listing.{Listing, kind_of};
+ghost use Rattle.command_groups.specs.Groups.{AreGroups, stores_of};
 ghost use Rattle.command_steps.specs.Seeds.{image_name};
 ghost use Rattle.command_steps.specs.Sources.{DialsStores, storage};
 ghost use Rattle.command_steps.specs.Uses.{Uses};
@@ -12,19 +13,21 @@ ghost use Rattle.command_worlds.specs.Worlds.{world};
 ghost use Rattle.extract_command.specs.Extract.{Assembled, ClearedAfter, ExtractEnds, FillsCache, IsNoFile};
 ghost use Rattle.extract_command.specs.Extract.{IsNumbered, OutMade, Renamed, answer_of_assembly, answer_of_taking};
 ghost use Rattle.extract_command.specs.Extract.{GetsWants, folders_reached, never_fail, temporary_out};
-ghost use Rattle.extract_command.specs.Held.{JustReached, disk_with, stores_of};
+ghost use Rattle.extract_command.specs.Held.{JustReached, disk_with, groups_of};
 ghost use Rattle.dsy_base.specs.Disk.{Output};
 ghost use Rattle.extract_plan.specs.Deal.{Deal, IsPlan};
 ghost use Rattle.extract_plan.specs.Places.{IsSeedIndex, PlacesKnown, items_of, seed_item_limit};
 
 use crate::held::{Held, give_back, into_kits, let_go, of_kits, reach};
 use crate::kits::open_kits;
+use crate::stores::Stores;
 use assembler::fault::ExtractFault;
 use caibx_codec::index::Index;
+use command_groups::numbers::numbered;
 use command_indexes::load::load_index;
 use command_outcome::outcome::Outcome;
 use command_steps::seeds::{open_seeds, read_indexes};
-use command_words::command::{Locations, Names};
+use command_words::command::{Groups, Names};
 use dsy_base::dial::Dial;
 use dsy_base::fault::{IoFault, Memory, OpenFault};
 use dsy_base::files::Files;
@@ -44,7 +47,9 @@ use std::thread::Threads;
 /// The words of an `extract`. The cache and the seeds may be absent.
 #[derive(Drop)]
 pub struct Extraction {
-    pub stores: Locations,
+    pub stores: Groups,
+    /// How often a call on a store that fails is made again: 0 to 16.
+    pub retries: u32,
     pub cache: Option<Name>,
     /// The names of the seeds' indexes.
     pub seeds: Names,
@@ -66,7 +71,7 @@ struct Planned {
     index: Index,
     seeds: Names,
     places: SeedIndex,
-    stores: Locations,
+    stores: Stores,
     workers: usize,
 }
 
@@ -119,7 +124,7 @@ fn plan_of(
     index: Index,
     seeds: Names,
     indexes: Vec<Index>,
-    stores: Locations,
+    stores: Stores,
     workers: usize,
 ) -> Result<Planned, Memory>
     requires few { length indexes.items < 2 ^ 32 }
@@ -165,30 +170,30 @@ where
     D::Link: Send,
     requires plan { (d : Deal) × IsPlan planned.now.index 1 d
         × PlacesKnown planned.now.index d planned.now.places (length planned.now.seeds) }
-    requires size { (1 ≤ length held.stores.items) × (length held.stores.items ≤ 16) }
-    requires located { stores_of F.Look.Look held ≡ planned.now.stores }
+    requires groups { AreGroups planned.now.stores.groups planned.now.stores.retries }
+    requires located { groups_of F.Look.Look held ≡ planned.now.stores.groups }
     requires workers { (1 ≤ planned.now.workers) × (planned.now.workers ≤ 32) }
-    requires held { JustReached F.Look.Look F.Folder.Look F.View.View D.state (F.disk files.old) planned.now.workers
-        (kind_of planned.now.index) held }
+    requires held { JustReached F.Look.Look F.Folder.Look F.View.View D.state (F.disk files.old)
+        planned.now.stores.retries planned.now.workers (kind_of planned.now.index) held }
     ensures assembled { (d : Deal) (ls : List Listing) → IsPlan planned.now.index 1 d →
         IsSeedIndex planned.now.index d ls planned.now.places →
         Assembled (storage (disk_with F.Folder.Look held (F.disk files.old)) (D.state dial.old))
-        (storage (F.disk files.new) (D.state dial.new)) (stores_of F.Look.Look held) held.cache
+        (storage (F.disk files.new) (D.state dial.new)) planned.now.stores held.cache
         (record { name = target.now; fresh = fresh }) planned.now.index
         (record { images = map image_name planned.now.seeds; listings = ls }) result }
-    ensures kept { FillsCache (stores_of F.Look.Look held) held.cache planned.now.index
+    ensures kept { FillsCache planned.now.stores held.cache planned.now.index
         (disk_with F.Folder.Look held (F.disk files.old)) (F.disk files.new) }
     ensures tells { is_some (F.disk files.new).files ≡ is_some (F.disk files.old).files }
-    ensures dialed { DialsStores (stores_of F.Look.Look held) (D.state dial.old) (D.state dial.new) }
+    ensures dialed { DialsStores (stores_of planned.now.stores.groups) (D.state dial.old) (D.state dial.new) }
     ensures used { Uses (target.now ∷ map image_name planned.now.seeds)
-        (folders_reached held.cache (stores_of F.Look.Look held)) (disk_with F.Folder.Look held (F.disk files.old))
+        (folders_reached held.cache planned.now.stores.groups) (disk_with F.Folder.Look held (F.disk files.old))
         (F.disk files.new) }
     ensures numbered { IsNumbered target.now (F.disk files.old) result (F.disk files.new) }
     ensures asks { (d : Deal) (ls : List Listing) → IsPlan planned.now.index 1 d →
         IsSeedIndex planned.now.index d ls planned.now.places →
         GetsWants (never_fail F.Target.never_fails F.Folder.never_fails)
         (storage (disk_with F.Folder.Look held (F.disk files.old)) (D.state dial.old))
-        (storage (F.disk files.new) (D.state dial.new)) (stores_of F.Look.Look held) held.cache
+        (storage (F.disk files.new) (D.state dial.new)) planned.now.stores held.cache
         (record { name = target.now; fresh = fresh }) planned.now.index
         (record { images = map image_name planned.now.seeds; listings = ls }) }
 {
@@ -199,7 +204,7 @@ where
         return Err(Outcome::Memory);
     };
     held.seeds = seeds;
-    let stores = planned.stores.as_slice();
+    let stores = &planned.stores;
     let workers = workers_with_room(alloc, &planned.index, planned.workers);
     let kind = planned.index.kind();
     let kits = &mut held.kits;
@@ -215,9 +220,12 @@ where
     let index = &planned.index;
     let ended = assemble(rt, alloc, index, &planned.places, taken, kits, shelf);
     let held = of_kits(ended.kits, cache, ended.cache);
+    let groups = stores.groups.as_slice();
+    let opened = held.stores.as_slice();
+    let answer = numbered(groups, opened, answer_of(ended.answer));
     give_back(files, dial, held);
     files.give(target, ended.target);
-    answer_of(ended.answer)
+    answer
 }
 
 // The name of the temporary file beside OUT.
@@ -282,16 +290,16 @@ where
     D::Link: Send,
     requires plan { (d : Deal) × IsPlan planned.now.index 1 d
         × PlacesKnown planned.now.index d planned.now.places (length planned.now.seeds) }
-    requires size { (1 ≤ length held.stores.items) × (length held.stores.items ≤ 16) }
-    requires located { stores_of F.Look.Look held ≡ planned.now.stores }
+    requires groups { AreGroups planned.now.stores.groups planned.now.stores.retries }
+    requires located { groups_of F.Look.Look held ≡ planned.now.stores.groups }
     requires workers { (1 ≤ planned.now.workers) × (planned.now.workers ≤ 32) }
-    requires held { JustReached F.Look.Look F.Folder.Look F.View.View D.state (F.disk files.old) planned.now.workers
-        (kind_of planned.now.index) held }
+    requires held { JustReached F.Look.Look F.Folder.Look F.View.View D.state (F.disk files.old)
+        planned.now.stores.retries planned.now.workers (kind_of planned.now.index) held }
     requires named { temporary.now ≡ temporary_out target }
     ensures made { (d : Deal) (ls : List Listing) (p : Output) → IsPlan planned.now.index 1 d →
         IsSeedIndex planned.now.index d ls planned.now.places → OutMade
         (never_fail F.Target.never_fails F.Folder.never_fails) false
-        (stores_of F.Look.Look held) held.cache target planned.now.index
+        planned.now.stores held.cache target planned.now.index
         (record { images = map image_name planned.now.seeds; listings = ls })
         (world (disk_with F.Folder.Look held (F.disk files.old)) (D.state dial.old) p) result
         (world (F.disk files.new) (D.state dial.new) p) }
@@ -320,16 +328,18 @@ where
     F::Folder: Send + Sync,
     <F::Target as Target>::Piece: Send,
     D::Link: Send,
-    requires stores { (1 ≤ length words.stores) × (length words.stores ≤ 16) }
+    requires stores { AreGroups words.stores words.retries }
     requires seeds { length words.seeds ≤ 64 }
     requires named { NamesIndex words.index }
     ensures ends { (p : Output) → ExtractEnds
-        (never_fail F.Target.never_fails F.Folder.never_fails) words.stores words.cache words.seeds words.in_place
+        (never_fail F.Target.never_fails F.Folder.never_fails)
+        (record { groups = words.stores; retries = words.retries }) words.cache words.seeds words.in_place
         words.index words.target (world (F.disk files.old) (D.state dial.old) p) result
         (world (F.disk files.new) (D.state dial.new) p) }
 {
     let Extraction {
         stores,
+        retries,
         cache,
         seeds,
         in_place,
@@ -338,6 +348,10 @@ where
         target,
     } = words;
     let workers = worker_count(workers);
+    let stores = Stores {
+        groups: stores,
+        retries,
+    };
     let listed = load_index(alloc, files, dial, index)?;
     let indexes = read_indexes(alloc, files, seeds.as_slice())?;
     let Ok(planned) = plan_of(alloc, listed, seeds, indexes, stores, workers) else {
@@ -346,7 +360,7 @@ where
     let Ok(temporary) = temporary_out(alloc, target.as_str()) else {
         return Err(Outcome::Memory);
     };
-    let stores = planned.stores.as_slice();
+    let stores = &planned.stores;
     let kind = planned.index.kind();
     let held = match reach(alloc, files, dial, kind, stores, cache, workers) {
         Ok(held) => held,

@@ -2,24 +2,25 @@
 //! the kits of its further workers.
 
 ghost use Rattle.std.specs.Prelude.{◌≡◌, ℕ, List, ◌<◌, ◌≤◌, IfErr, IfOk, Ok, Err, length, vec_capacity, vec_len};
+ghost use Rattle.command_groups.specs.Groups.{AreGroups};
 ghost use Rattle.command_steps.specs.Sources.{storage};
 ghost use Rattle.command_steps.specs.Uses.{Uses};
 ghost use Rattle.command_worlds.specs.Worlds.{Reads};
 ghost use Rattle.extract_command.specs.Extract.{folders_reached};
 ghost use Rattle.extract_command.specs.Held.{AllReached, CanBeGiven, HasNames, IsGivenBack, JustReached, disk_with};
-ghost use Rattle.extract_command.specs.Held.{stores_of};
+ghost use Rattle.extract_command.specs.Held.{groups_of};
 ghost use Rattle.extract_command.specs.Kits.{StandsFirst};
 
 use crate::cache::{give_cache, take_cache};
 use crate::kits::{close_kits, drop_kits};
+use crate::stores::Stores;
 use cache_store::shelf::CacheShelf;
 use chunk_sources::kit::Kit;
 use chunk_store::id::DigestKind;
+use command_groups::groups::{close_groups, drop_groups, open_groups};
 use command_outcome::outcome::Outcome;
 use command_steps::any_store::AnyStore;
 use command_steps::seeds::close_seeds;
-use command_steps::sources::{close_sources, drop_sources, open_sources};
-use command_words::command::Location;
 use dsy_base::dial::Dial;
 use dsy_base::files::Files;
 use dsy_base::folder::Folder;
@@ -29,16 +30,17 @@ use dsy_base::view::View;
 use extract_plan::seed::Seed;
 use std::alloc::Global;
 use store_chain::chain::Chain;
+use store_group::group::Group;
 
 /// What an extraction holds. The cache is named by its folder, where there is one. Stores and seeds are those of the
 /// first worker, which aren't among the kits: these are the further workers', with room for the first one's.
 #[derive(Drop)]
 pub struct Held<L: Look, W: Folder, V: View, D: Dial> {
-    pub stores: Vec<AnyStore<L, D>>,
+    pub stores: Vec<Group<AnyStore<L, D>>>,
     pub cache: Option<Name>,
     pub shelf: Option<CacheShelf<W>>,
     pub seeds: Vec<Seed<V>>,
-    pub kits: Vec<Kit<AnyStore<L, D>, V>>,
+    pub kits: Vec<Kit<Group<AnyStore<L, D>>, V>>,
 }
 
 /// Opens the stores in their order, and takes the folder of the cache, where there is one, whose chunks are named by
@@ -48,22 +50,24 @@ pub fn reach<F: Files, D: Dial>(
     files: &mut F,
     dial: &D,
     kind: DigestKind,
-    stores: &[Location],
+    stores: &Stores,
     cache: Option<Name>,
     workers: usize,
 ) -> Result<Held<F::Look, F::Folder, F::View, D>, Outcome>
-    ensures ok { IfOk result (λ h. AllReached stores.now cache (F.disk files.old) (Ok tt)
+    requires groups { AreGroups stores.now.groups stores.now.retries }
+    ensures ok { IfOk result (λ h. AllReached stores.now.groups cache (F.disk files.old) (Ok tt)
         (disk_with F.Folder.Look h (F.disk files.new))) }
-    ensures located { IfOk result (λ h. stores_of F.Look.Look h ≡ stores.now) }
+    ensures located { IfOk result (λ h. groups_of F.Look.Look h ≡ stores.now.groups) }
     ensures named { IfOk result (λ h. h.cache ≡ cache) }
     ensures fresh { IfOk result (JustReached F.Look.Look F.Folder.Look F.View.View D.state (F.disk files.new)
-        workers kind) }
-    ensures err { IfErr result (λ o. AllReached stores.now cache (F.disk files.old) (Err o) (F.disk files.new)) }
+        stores.now.retries workers kind) }
+    ensures err { IfErr result (λ o. AllReached stores.now.groups cache (F.disk files.old) (Err o) (F.disk files.new)) }
 {
     let Ok(kits) = Vec::with_capacity(alloc, workers) else {
         return Err(Outcome::Memory);
     };
-    let stores = match open_sources(alloc, files, dial, stores) {
+    let groups = stores.groups.as_slice();
+    let stores = match open_groups(alloc, files, dial, groups, stores.retries) {
         Ok(stores) => stores,
         Err(outcome) => return Err(outcome),
     };
@@ -76,7 +80,7 @@ pub fn reach<F: Files, D: Dial>(
             kits,
         }),
         Err(outcome) => {
-            drop_sources(files, stores);
+            drop_groups(files, stores);
             Err(outcome)
         }
     }
@@ -89,7 +93,7 @@ pub fn into_kits<L: Look, W: Folder, V: View, D: Dial>(
     kind: DigestKind,
     held: Held<L, W, V, D>,
 ) -> (
-    Vec<Kit<AnyStore<L, D>, V>>,
+    Vec<Kit<Group<AnyStore<L, D>>, V>>,
     Option<Name>,
     Option<CacheShelf<W>>,
 )
@@ -114,7 +118,7 @@ pub fn into_kits<L: Look, W: Folder, V: View, D: Dial>(
 
 /// What is held of them again.
 pub fn of_kits<L: Look, W: Folder, V: View, D: Dial>(
-    mut kits: Vec<Kit<AnyStore<L, D>, V>>,
+    mut kits: Vec<Kit<Group<AnyStore<L, D>>, V>>,
     cache: Option<Name>,
     shelf: Option<CacheShelf<W>>,
 ) -> Held<L, W, V, D>
@@ -138,7 +142,7 @@ pub fn let_go<F: Files, D: Dial>(files: &mut F, held: Held<F::Look, F::Folder, F
     requires given { CanBeGiven F.Look.Look F.Folder.Look F.View.View (F.disk files.old) held }
     ensures kept { Reads (disk_with F.Folder.Look held (F.disk files.old)) (F.disk files.new) }
     ensures used { (images : List (List ℕ)) → HasNames F.Look.Look F.View.View images held →
-        Uses images (folders_reached held.cache (stores_of F.Look.Look held)) (F.disk files.old) (F.disk files.new) }
+        Uses images (folders_reached held.cache (groups_of F.Look.Look held)) (F.disk files.old) (F.disk files.new) }
 {
     let Held {
         stores,
@@ -149,7 +153,7 @@ pub fn let_go<F: Files, D: Dial>(files: &mut F, held: Held<F::Look, F::Folder, F
     } = held;
     drop_kits(files, kits);
     give_cache(files, &cache, shelf);
-    drop_sources(files, stores);
+    drop_groups(files, stores);
     close_seeds(files, seeds)
 }
 
@@ -172,6 +176,6 @@ pub fn give_back<F: Files, D: Dial>(
     } = held;
     close_kits(files, dial, kits);
     give_cache(files, &cache, shelf);
-    close_sources(files, dial, stores);
+    close_groups(files, dial, stores);
     close_seeds(files, seeds)
 }

@@ -1,6 +1,7 @@
 //! The kits of the further workers of an extraction: stores and seeds of their own, opened like those of the first one.
 
 ghost use Rattle.std.specs.Prelude.{◌≡◌, ℕ, List, ◌+◌, ◌<◌, ◌≤◌, All, IfSome, length, map, max, vec_capacity, vec_len};
+ghost use Rattle.command_groups.specs.Groups.{AreGroups, stores_of};
 ghost use Rattle.command_steps.specs.Seeds.{image_name};
 ghost use Rattle.command_steps.specs.Sources.{storage};
 ghost use Rattle.command_steps.specs.Uses.{Uses, folders_among};
@@ -8,17 +9,18 @@ ghost use Rattle.command_worlds.specs.Worlds.{Reads};
 ghost use Rattle.extract_command.specs.Kits.{AreGivenBack, AreOpened, CanGiveKit, IsKitGiven, IsKitOpened, UsesNames};
 ghost use Rattle.extract_command.specs.Kits.{kit_names, kit_stores};
 
+use crate::stores::Stores;
 use chunk_sources::kit::Kit;
 use chunk_store::id::DigestKind;
+use command_groups::groups::{close_groups, drop_groups, open_groups};
 use command_steps::any_store::AnyStore;
 use command_steps::seeds::{close_seeds, open_seeds};
-use command_steps::sources::{close_sources, drop_sources, open_sources};
-use command_words::command::Location;
 use dsy_base::dial::Dial;
 use dsy_base::files::Files;
 use dsy_base::name::Name;
 use std::alloc::Global;
 use store_chain::chain::Chain;
+use store_group::group::Group;
 
 // Opens the stores and the seeds of one kit, whose chunks are named by this digest, or lets go of what was opened.
 fn open_kit<F: Files, D: Dial>(
@@ -26,23 +28,24 @@ fn open_kit<F: Files, D: Dial>(
     files: &mut F,
     dial: &D,
     kind: DigestKind,
-    stores: &[Location],
+    stores: &Stores,
     seeds: &[Name],
-) -> Option<Kit<AnyStore<F::Look, D>, F::View>>
-    requires size { (1 ≤ length stores.now) × (length stores.now ≤ 16) }
+) -> Option<Kit<Group<AnyStore<F::Look, D>>, F::View>>
+    requires size { AreGroups stores.now.groups stores.now.retries }
     ensures some { IfSome result (IsKitOpened F.Look.Look F.View.View D.state (F.disk files.old) (F.disk files.new)
         stores.now (map image_name seeds.now)) }
     ensures kind { IfSome result (λ k. k.chain.kind ≡ kind) }
     ensures kept { Reads (F.disk files.old) (F.disk files.new) }
-    ensures used { Uses (map image_name seeds.now) (folders_among stores.now) (F.disk files.old) (F.disk files.new) }
+    ensures used { Uses (map image_name seeds.now) (folders_among (stores_of stores.now.groups)) (F.disk files.old) (F.disk files.new) }
 {
-    let Ok(stores) = open_sources(alloc, files, dial, stores) else {
+    let groups = stores.groups.as_slice();
+    let Ok(stores) = open_groups(alloc, files, dial, groups, stores.retries) else {
         return None;
     };
     match open_seeds(alloc, files, seeds) {
         Ok(seeds) => Some(Kit::new(alloc, Chain::with_kind(kind, stores), seeds)),
         Err(_) => {
-            drop_sources(files, stores);
+            drop_groups(files, stores);
             None
         }
     }
@@ -54,12 +57,12 @@ pub fn open_kits<F: Files, D: Dial>(
     files: &mut F,
     dial: &D,
     kind: DigestKind,
-    stores: &[Location],
+    stores: &Stores,
     seeds: &[Name],
     workers: usize,
-    kits: &mut Vec<Kit<AnyStore<F::Look, D>, F::View>>,
+    kits: &mut Vec<Kit<Group<AnyStore<F::Look, D>>, F::View>>,
 )
-    requires size { (1 ≤ length stores.now) × (length stores.now ≤ 16) }
+    requires size { AreGroups stores.now.groups stores.now.retries }
     requires some { 1 ≤ workers }
     requires room { (vec_len kits.old ≡ 0) × (workers ≤ vec_capacity kits.old) }
     ensures opened { AreOpened F.Look.Look F.View.View D.state (F.disk files.old) (F.disk files.new) stores.now
@@ -68,7 +71,7 @@ pub fn open_kits<F: Files, D: Dial>(
     ensures few { vec_len kits.new + 1 ≤ workers }
     ensures room { vec_len kits.new + 1 ≤ vec_capacity kits.new }
     ensures kept { Reads (F.disk files.old) (F.disk files.new) }
-    ensures used { Uses (map image_name seeds.now) (folders_among stores.now) (F.disk files.old) (F.disk files.new) }
+    ensures used { Uses (map image_name seeds.now) (folders_among (stores_of stores.now.groups)) (F.disk files.old) (F.disk files.new) }
 {
     let alloc = *kits.allocator();
     for _opened in 1..workers {
@@ -83,7 +86,7 @@ pub fn open_kits<F: Files, D: Dial>(
 fn close_kit<F: Files, D: Dial>(
     files: &mut F,
     dial: &mut D,
-    kit: Kit<AnyStore<F::Look, D>, F::View>,
+    kit: Kit<Group<AnyStore<F::Look, D>>, F::View>,
 )
     requires given { CanGiveKit F.Look.Look F.View.View (F.disk files.old) kit }
     ensures given { IsKitGiven F.Look.Look F.View.View D.state kit
@@ -91,7 +94,7 @@ fn close_kit<F: Files, D: Dial>(
     ensures kept { Reads (F.disk files.old) (F.disk files.new) }
 {
     let Kit { chain, seeds, .. } = kit;
-    close_sources(files, dial, chain.into_stores());
+    close_groups(files, dial, chain.into_stores());
     close_seeds(files, seeds)
 }
 
@@ -99,7 +102,7 @@ fn close_kit<F: Files, D: Dial>(
 pub fn close_kits<F: Files, D: Dial>(
     files: &mut F,
     dial: &mut D,
-    mut kits: Vec<Kit<AnyStore<F::Look, D>, F::View>>,
+    mut kits: Vec<Kit<Group<AnyStore<F::Look, D>>, F::View>>,
 )
     requires given { All (CanGiveKit F.Look.Look F.View.View (F.disk files.old)) kits.items }
     ensures given { AreGivenBack F.Look.Look F.View.View D.state kits.items
@@ -115,21 +118,21 @@ pub fn close_kits<F: Files, D: Dial>(
 }
 
 // Lets one go that was never asked.
-fn drop_kit<F: Files, D: Dial>(files: &mut F, kit: Kit<AnyStore<F::Look, D>, F::View>)
+fn drop_kit<F: Files, D: Dial>(files: &mut F, kit: Kit<Group<AnyStore<F::Look, D>>, F::View>)
     requires given { CanGiveKit F.Look.Look F.View.View (F.disk files.old) kit }
     ensures kept { Reads (F.disk files.old) (F.disk files.new) }
     ensures used { Uses (kit_names F.Look.Look F.View.View kit) (folders_among (kit_stores F.Look.Look F.View.View kit))
         (F.disk files.old) (F.disk files.new) }
 {
     let Kit { chain, seeds, .. } = kit;
-    drop_sources(files, chain.into_stores());
+    drop_groups(files, chain.into_stores());
     close_seeds(files, seeds)
 }
 
 /// Lets all of them go that were never asked.
 pub fn drop_kits<F: Files, D: Dial>(
     files: &mut F,
-    mut kits: Vec<Kit<AnyStore<F::Look, D>, F::View>>,
+    mut kits: Vec<Kit<Group<AnyStore<F::Look, D>>, F::View>>,
 )
     requires given { All (CanGiveKit F.Look.Look F.View.View (F.disk files.old)) kits.items }
     ensures kept { Reads (F.disk files.old) (F.disk files.new) }

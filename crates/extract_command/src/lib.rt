@@ -5,3 +5,4 @@ mod cache;
 pub mod extract;
 mod held;
 mod kits;
+pub mod stores;

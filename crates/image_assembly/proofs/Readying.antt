@@ -110,12 +110,12 @@ module _ {S V : Type 0} (store : StoreWords S) (view : ViewWords V) (r : Run) (t
 
   -- ---- the target of which the shards were made
 
-  module _ (old : Held) (held : x.whole.held ≡ held_resized old (image_length x.task.listing)) (tells : is_some x.whole.held.bytes ≡ told) where
+  module _ (old : Held) (held : x.whole.held ≡ held_resized old (image_length x.task.listing)) where
     resized_so : x.whole.held ≡ held_resized old (image_length r.listing)
     resized_so = held ∙ ap (λ (l : Listing). held_resized old (image_length l)) is.listing
 
     told_so : is_some old.bytes ≡ r.tells
-    told_so = sym (resized_tells old x.whole.held (image_length r.listing) resized_so) ∙ tells ∙ is.tells
+    told_so = sym (resized_tells old x.whole.held (image_length r.listing) resized_so) ∙ is.shown ∙ is.tells
 
     based : IfSome old.bytes (λ y. r.base ≡ resized y (image_length r.listing))
     based = unmap (λ y. resized y (image_length r.listing)) old.bytes (λ t. r.base ≡ t) (subst (λ (h : Held). IfSome h.bytes (λ t. r.base ≡ t)) resized_so is.base)

@@ -1,6 +1,6 @@
 -- What stands once an assembly is prepared.
 use Rattle.std.specs.Prelude.{◌≡◌, ◌⊎◌, ℕ, ◌<◌, ◌≤◌, List, [], length, map, replicate, Bool, false, IfSome, Option}
-use Rattle.std.specs.Prelude.{Some, vec_capacity, vec_len}
+use Rattle.std.specs.Prelude.{Some, is_some, vec_capacity, vec_len}
 use Rattle.std.specs.Global.{Vec}
 use Rattle.std.specs.List.{All}
 use Rattle.assembler.specs.Begun.{HasBegun}
@@ -63,7 +63,8 @@ abbrev pub readied : {S V : Type 0} → Task → Whole → List (Kit S V) → Re
 readied task whole kits = record { task = task; whole = whole; kits = kits }
 
 -- what it keeps: with one kit the run permits all, the plan is that of the run's index for as many workers as there are
--- kits, no want is marked as tried, the places and each kit are of this index, and the survey is over
+-- kits, no want is marked as tried, the places and each kit are of this index, the survey is over, and no failed call
+-- was forgotten
 pub record IsReadied {S V : Type 0} (store : StoreWords S) (view : ViewWords V) (r : Run) (told : Bool)
     (tried : List Bool) (x : Readied S V) : Type 0 where
   pub listing : x.task.listing ≡ r.listing
@@ -71,6 +72,8 @@ pub record IsReadied {S V : Type 0} (store : StoreWords S) (view : ViewWords V) 
   pub shards : r.shards ≡ shards_of (length x.kits) (count_of r.listing)
   pub base : IfSome x.whole.held.bytes (λ t. r.base ≡ t)
   pub tells : told ≡ r.tells
+  pub shown : is_some x.whole.held.bytes ≡ told
+  pub rises : x.whole.faults_before ≤ x.whole.faults
   pub first : AreFirst r x.whole.fates
   pub some : 0 < length x.kits
   pub plan : IsPlan x.task.listing (length x.kits) x.task.plan

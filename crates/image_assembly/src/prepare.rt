@@ -37,7 +37,7 @@ use dsy_base::view::{Part, Target, View};
 use extract_plan::plan::Plan;
 use extract_plan::seeds::SeedIndex;
 use image_workers::assembled::Assembled;
-use image_workers::together::{Rooms, run_workers};
+use image_workers::together::{Rooms, Workers, run_workers};
 use named_folders::named_folder::FolderName;
 use owned_shards::shards::Shards;
 use owned_shards::survey::survey_shards;
@@ -299,16 +299,15 @@ impl<'a, R: RunName + Send + Sync, T: Target, S: Store + Send, V: View + Send> P
             mut kits,
             rooms,
         } = self;
-        // Only for its contract: what the shards keep.
-        shards.keeps();
         let wants = Wants {
             index,
             plan: &plan,
             places,
         };
         if let Some(rooms) = rooms {
+            let workers = Workers { kits, rooms };
             return run_workers::<W, R, N, T, S, V, F>(
-                rt, index, &wants, tried, shards, kits, cache, rooms,
+                rt, index, &wants, tried, shards, workers, cache,
             );
         }
         let Some(kit) = kits.pop() else {

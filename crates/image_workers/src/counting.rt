@@ -37,9 +37,6 @@ pub(crate) fn report_of<L: Ledger>(wants: &Wants<'_>, known: &[Vec<Fate>], ledge
     ensures all { ((i : ℕ) → i < count_of L.run.listing → settled (L.fates ledger.now) i ≡ true) →
         result.kept + result.copied + result.seeded + result.cached + result.fetched ≡ count_of L.run.listing }
 {
-    // Only for their contracts: how many entries there are.
-    ledger.rules();
-    wants.index.rules();
     let mut report = Report::new();
     for entry in 0..wants.index.count() {
         let want = wants.plan.want_of(entry);

@@ -1,6 +1,6 @@
 //! The end of an assembly by several workers: the second pass, which the first of them makes over the joined shards.
 
-ghost use Rattle.std.specs.Prelude.{◌≡◌, ◌≤◌, ℕ, ◌+◌, List, Err, None, Option, replicate, false, true, IfOk};
+ghost use Rattle.std.specs.Prelude.{◌≡◌, ◌≤◌, ℕ, ◌+◌, List, Err, None, Option, replicate, false, true, IfOk, IfSome};
 ghost use Rattle.std.specs.Prelude.{length, map};
 ghost use Rattle.std.specs.List.{All};
 ghost use Rattle.assembler.specs.Passes.{Ends, HasPassed, one_pass};
@@ -15,6 +15,7 @@ ghost use Rattle.chunk_sources.specs.Sources.{Sources, sources};
 ghost use Rattle.range_survey.specs.declared.fate.Fate.{Fate};
 ghost use Rattle.image_workers.specs.Beside.{AssembledBeside, ComesFrom, joined_stage};
 ghost use Rattle.image_workers.specs.Reporting.{CountsFates, reported_at};
+ghost use Rattle.owned_shards.specs.Wholes.{KeptWhole};
 
 use crate::counting::report_of;
 use assembler::fault::ExtractFault;
@@ -73,6 +74,8 @@ pub(crate) fn finish<R: RunName, T: Target, S: Store, V: View, F: Folder>(
     requires dealt { wants.now.index.now ≡ R.run.listing }
     requires fresh { tried.items ≡ replicate wants.now.plan.now.wants false }
     requires ready { Ready (task R.run.listing wants.now) (joined_stage shards (seen F.Look cache) kit) }
+    requires kept { IfSome shards.held.bytes (KeptWhole R.run shards) }
+    requires faults { shards.faults_before ≤ shards.faults }
     requires unnamed { (F.pairs ≡ None) × (F.stores ≡ None) }
     requires may { MayFillHad S.Store V.View (task R.run.listing wants.now) R.run.may
         (joined_stage shards (seen F.Look cache) kit) (λ _. Unit {0}) }
@@ -103,9 +106,8 @@ pub(crate) fn finish<R: RunName, T: Target, S: Store, V: View, F: Folder>(
     ensures name { (T.held result.target).name ≡ shards.entry.held.name }
     ensures faults { shards.entry.faults ≤ T.faults result.target }
 {
-    // Only for their contracts: what the shards keep.
+    // Only for its contract: how many bytes the shards have.
     shards.rules();
-    shards.keeps();
     let mut work = Work {
         ledger: shards,
         kit,

@@ -79,6 +79,13 @@ impl<'a, P: Part, R: RunName, S: Store, V: View> Rooms<'a, P, R, S, V> {
     }
 }
 
+/// The workers: a kit for each, and their room.
+#[derive(Drop)]
+pub struct Workers<'a, P: Part, R: RunName, S: Store, V: View> {
+    pub kits: Vec<Kit<S, V>>,
+    pub rooms: Rooms<'a, P, R, S, V>,
+}
+
 /// Both passes: all workers, each with its kit, and then the first one. The kits come back in their order. The cache is
 /// behind a lock during the first pass; `N` names its kind, what its folder held before, and what may be added.
 pub fn run_workers<
@@ -96,9 +103,8 @@ pub fn run_workers<
     wants: &Wants<'_>,
     tried: Vec<bool>,
     shards: Shards<'a, R, T>,
-    kits: Vec<Kit<S, V>>,
+    workers: Workers<'a, T::Piece, R, S, V>,
     cache: Option<CacheShelf<F>>,
-    rooms: Rooms<'a, T::Piece, R, S, V>,
 ) -> Assembled<T, S, V, F>
 where
     T::Piece: Send,
@@ -112,31 +118,32 @@ where
     requires named { IfSome (seen F.Look cache) (NamesShelf (kind_named N.kind) N.opening N.place N.faults) }
     requires kind { kind_named N.kind ≡ kind_of R.run.listing }
     requires pairs { N.pairs ≡ Some (pairs_of R.run.listing) }
-    requires stores { N.stores ≡ all_told (map S.holds (all_stores kits.items)) }
-    requires many { 2 ≤ vec_len kits }
-    requires workers { wants.now.plan.now.workers ≡ vec_len kits }
-    requires ready { (k : ℕ) (q : Kit S V) → k < length kits.items → IsReadyFor S.Store V.View R.run
+    requires stores { N.stores ≡ all_told (map S.holds (all_stores workers.kits.items)) }
+    requires many { 2 ≤ vec_len workers.kits }
+    requires workers { wants.now.plan.now.workers ≡ vec_len workers.kits }
+    requires ready { (k : ℕ) (q : Kit S V) → k < length workers.kits.items → IsReadyFor S.Store V.View R.run
         (task R.run.listing wants.now) (door_shelf (kind_named N.kind) N.opening N.pairs N.stores 0 (seen F.Look cache))
-        k (slice_index_or kits.items k q) shards.fates }
+        k (slice_index_or workers.kits.items k q) shards.fates }
     requires permits { (q : Kit S V) → PermitsKit S.Store V.View R.run (task R.run.listing wants.now)
         (door_shelf (kind_named N.kind) N.opening N.pairs N.stores 0 (seen F.Look cache))
-        (slice_index_or kits.items 0 q) }
-    requires none { (rooms.locks.items ≡ []) × (rooms.lanes.items ≡ []) }
-    requires locks { R.run.shards ≤ vec_capacity rooms.locks }
-    requires lanes { vec_len kits ≤ vec_capacity rooms.lanes }
-    requires size { vec_len rooms.known ≡ vec_len kits }
-    requires known { All (λ v. (v.items ≡ []) × (count_of R.run.listing ≤ vec_capacity v)) rooms.known.items }
+        (slice_index_or workers.kits.items 0 q) }
+    requires none { (workers.rooms.locks.items ≡ []) × (workers.rooms.lanes.items ≡ []) }
+    requires locks { R.run.shards ≤ vec_capacity workers.rooms.locks }
+    requires lanes { vec_len workers.kits ≤ vec_capacity workers.rooms.lanes }
+    requires size { vec_len workers.rooms.known ≡ vec_len workers.kits }
+    requires known { All (λ v. (v.items ≡ []) × (count_of R.run.listing ≤ vec_capacity v)) workers.rooms.known.items }
     ensures bytes { (old : Held) (f : ℕ) → BegunBeside R.run old f shards.entry → WhereTold old.bytes
         (T.held result.target).bytes (Assembles R.run.listing ⊥ f (T.faults result.target) result.answer) }
     ensures kits { (old : Held) (f : ℕ) → BegunBeside R.run old f shards.entry →
-        MayFillFrom S.Store V.View (task R.run.listing wants.now) R.run.may old.bytes (seen F.Look cache) kits.items →
+        MayFillFrom S.Store V.View (task R.run.listing wants.now) R.run.may old.bytes (seen F.Look cache)
+        workers.entry.kits.items →
         IsAssembledBy S.Store V.View (task R.run.listing wants.now) T.never_fails F.never_fails old.bytes
-        (T.held result.target).bytes (lent f kits.items (seen F.Look cache))
+        (T.held result.target).bytes (lent f workers.entry.kits.items (seen F.Look cache))
         (lent (T.faults result.target) result.kits.items (seen F.Look result.cache)) result.answer }
     ensures report { IfOk result.answer
         (λ r. r.kept + r.copied + r.seeded + r.cached + r.fetched ≡ count_of R.run.listing) }
     ensures memory { result.answer ≡ Err ExtractFault.Memory → MayLack S.Store (seen F.Look cache) }
-    ensures size { (length result.kits.items ≡ length kits.items)
+    ensures size { (length result.kits.items ≡ length workers.entry.kits.items)
         × ((T.held result.target).size ≡ image_length R.run.listing) }
     ensures name { (T.held result.target).name ≡ shards.entry.held.name }
     ensures faults { shards.entry.faults_before ≤ T.faults result.target }
@@ -146,8 +153,8 @@ where
         locks,
         lanes,
         known,
-    } = rooms;
-    let (room, lists, mut lanes) = lanes_of(&shards, count, kits, known, lanes);
+    } = workers.rooms;
+    let (room, lists, mut lanes) = lanes_of(&shards, count, workers.kits, known, lanes);
     // Only for its contract, as below: what the survey left.
     shards.keeps();
     let (shards, cache) = pass_all::<W, R, N, T, S, V, F>(

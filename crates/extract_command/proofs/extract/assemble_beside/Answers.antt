@@ -4,7 +4,6 @@ use Rattle.cache_store.specs.Shelves.{Shelf, Shelved}
 use Rattle.chunk_sources.specs.Caches.{seen}
 use Rattle.command_steps.specs.Cache.{with_cache}
 use Rattle.extract_command.proofs.extract.assemble_beside.Given.{Over}
-use Rattle.command_steps.specs.AnyStores.{location_in}
 use Rattle.command_steps.specs.Seeds.{image_name}
 use Rattle.command_steps.specs.Sources.{NotAsking, storage}
 use Rattle.command_worlds.specs.Worlds.{world}
@@ -28,7 +27,7 @@ returns-in_err-clear g c =
     let k0 = g.D.Dial.state c.args.dial.now in
     let k1 = g.D.Dial.state c.assemble_into-made.new.dial in
     let w = storage d k0 in
-    let names = map (location_in g.F.Look.Look.place) c.args.held.stores.items in
+    let names = c.args.planned.now.stores in
     let l = c.args.planned.now.index in
     record {
       made = λ deal ls p plan is.
@@ -50,7 +49,7 @@ returns g c =
     let m = at c.clear.new.files in
     let n = at c.rename-renamed.new.files in
     let f = at c.clear-2.new.files in
-    let names = map (location_in g.F.Look.Look.place) c.args.held.stores.items in
+    let names = c.args.planned.now.stores in
     let l = c.args.planned.now.index in
     record {
       made = λ deal ls p plan is.

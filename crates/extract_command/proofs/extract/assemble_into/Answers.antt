@@ -1,4 +1,4 @@
-use Rattle.std.proofs.Common.{◌≡◌, ◌∙◌, ℕ, suc, ◌≤◌, All, Bool, List, ◌∷◌, Err, length, Option, IfSome, IsTrue, is_some, map, slice_index_or, refl, sym, ap, subst, arith, inl, inr, IsSome}
+use Rattle.std.proofs.Common.{◌≡◌, ◌∙◌, ℕ, suc, ◌≤◌, All, Bool, List, ◌∷◌, Err, length, Option, IfSome, IsTrue, is_some, map, slice_index_or, refl, sym, ap, subst, arith, inl, inr, IsSome, Result}
 use Rattle.std.proofs.lemmas.List.Elements.{All-cons, All-nil}
 use Rattle.std.specs.List.{AllZip, fold}
 use Rattle.std.specs.Map.{count_at}
@@ -15,7 +15,12 @@ use Rattle.command_steps.proofs.Given.{all_later}
 use Rattle.command_steps.proofs.Numbers.{counted_known, rose_later, rose_longer}
 use Rattle.command_steps.proofs.SeedsOpened.{all_known_later}
 use Rattle.command_steps.proofs.SeedsUsed.{viewed_names}
-use Rattle.command_steps.specs.AnyStores.{IsGiven, location_in, with_those}
+use Rattle.command_groups.proofs.Stand.{groups_many, sizes_stand}
+use Rattle.command_outcome.specs.declared.outcome.Outcome.{Outcome}
+use Rattle.command_groups.proofs.Words.{group_words}
+use Rattle.command_groups.specs.Groups.{stores_of}
+use Rattle.command_groups.specs.Numbers.{answer_of_stores}
+use Rattle.command_groups.specs.Opened.{IsGroupGiven, all_locations, locations_in, with_group}
 use Rattle.command_steps.specs.Cache.{with_cache}
 use Rattle.command_steps.specs.Seeds.{IsViewed, image_name, label_in}
 use Rattle.command_steps.specs.Sources.{DialsStores, storage}
@@ -27,11 +32,11 @@ use Rattle.dsy_base.specs.Counts.{raised}
 use Rattle.dsy_base.specs.Disk.{Disk, GivesFile}
 use Rattle.dsy_base.specs.Links.{DialState}
 use Rattle.dsy_base.specs.Maps.{Map, at_name}
-use Rattle.extract_command.proofs.AnyWords.{any_words, task}
 use Rattle.extract_command.proofs.Between.{asked_nothing, back_dialed, back_reads, back_writes, fills, stopped, took_writes, unfilled, untaken}
-use Rattle.extract_command.proofs.First.{as_many, by_first, many_named}
+use Rattle.extract_command.proofs.First.{as_many, by_first}
 use Rattle.extract_command.proofs.LentKits.{LooksTell, all_give_later, give_later, opened_kits, opened_names}
 use Rattle.extract_command.proofs.Run.{IsRun, run_asks, run_assembled}
+use Rattle.extract_command.proofs.Tasks.{task}
 use Rattle.extract_command.proofs.Shelved.{IsTold, fresh_faults, gone_seen, known_still, name_after, name_in, same_kind, same_names, told_files}
 use Rattle.extract_command.proofs.UsedKits.{IsHeldStill, held_given, held_still}
 use Rattle.extract_command.proofs.Using.{made_used, opened_used, seeds_used, untaken_used, untouched_used}
@@ -39,21 +44,23 @@ use Rattle.extract_command.proofs.Wrote.{untaken_numbered, wrote_back, wrote_rea
 use Rattle.extract_command.proofs.extract.assemble_into.Given.{Over}
 use Rattle.extract_command.proofs.extract.assemble_into.Goals.{After-of_kits-held}
 use Rattle.extract_command.proofs.extract.assemble_into.Goals as goal
-use Rattle.extract_command.specs.Extract.{FillsCache, Into, folders_reached, never_fail}
+use Rattle.extract_command.specs.Extract.{Assembled, FillsCache, Into, Seeds, answer_of_assembly, folders_reached, never_fail}
 use Rattle.extract_command.specs.Held.{CanBeGiven, HasNames, IsGivenBack}
 use Rattle.extract_command.specs.Kits.{AreOpened, UsesNames}
+use Rattle.extract_command.specs.declared.stores.Stores.{Stores}
 use Rattle.extract_plan.specs.Deal.{IsPlan}
 use Rattle.extract_plan.specs.Places.{PlacesKnown}
 use Rattle.extract_plan.specs.Seeds as seeds
 use Rattle.image_workers.specs.Kits.{IsAssembledBy}
+use Rattle.store_group.specs.Groups.{Grouped}
 
 -- what is seen of the cache
 abbrev see : (g : Over) → Option (Shelved g.row.F-Folder.Denot) → Option Shelf
 see g = seen g.F.Folder.Look
 
 -- what is told of its stores
-abbrev words : (g : Over) → StoreWords (AnyStore g.row.F-Look.Denot g.row.D.Denot g.row.D-Link.Denot)
-words g = any_words g.F.Look.Look g.D.Dial.state
+abbrev words : (g : Over) → StoreWords (Grouped (AnyStore g.row.F-Look.Denot g.row.D.Denot g.row.D-Link.Denot))
+words g = group_words g.F.Look.Look g.D.Dial.state
 
 cache_told : (g : Over) (f : g.row.F.Denot) (o : Option (Shelved g.row.F-Folder.Denot)) → IsTold (see g o) (g.F.Files.disk f).folders
 cache_told g f o = told_files g.F.Folder.Look (g.met.F.Folder.Look g.world.𝓛 g.world.𝓜 g.world.𝓡 ((λ s y. y), (λ y. y), (λ y. y), (λ y. y))).told (g.F.Files.disk f).folders
@@ -76,7 +83,7 @@ let_go-requires g c =
     let lent = c.requires.held.lent in
     record {
       given = record {
-        stores = all_later d'.folder_counts b.folder_counts read.folder_known (map (location_in g.F.Look.Look.place) c.args.held.stores.items) lent.stores;
+        stores = all_later d'.folder_counts b.folder_counts read.folder_known (all_locations g.F.Look.Look.place c.args.held.stores.items) lent.stores;
         named = lent.named;
         cache = known_still c.args.held.cache d'.folder_counts b.folder_counts read.folder_known lent.cache;
         seeds = all_known_later g.F.View.View.held d'.file_counts b.file_counts read.known c.args.held.seeds.items lent.seeds;
@@ -86,7 +93,7 @@ let_go-requires g c =
 
 pub open_kits-requires : goal.open_kits-requires
 open_kits-requires g c = record {
-  size = rw c.as_slice-stores.ensures (many_named (location_in g.F.Look.Look.place) c.args.held.stores.items c.args.planned.now.stores c.requires.located c.requires.size);
+  size = c.requires.groups;
   some = c.workers_with_room-workers.ensures.size.0;
   room = (c.args.held.kits.ok.0 ∙ ap length c.requires.held.room.0, omega (arith, c.workers_with_room-workers.ensures.size.1, c.requires.held.room.1));
 }
@@ -107,13 +114,16 @@ let_go-requires-in-Err g c =
     let more = c.open_kits.new.kits.items in
     record {
       given = record {
-        stores = all_later d'.folder_counts b2.folder_counts folder_known (map (location_in look.place) c.args.held.stores.items) lent.stores;
+        stores = all_later d'.folder_counts b2.folder_counts folder_known (all_locations look.place c.args.held.stores.items) lent.stores;
         named = lent.named;
         cache = known_still c.args.held.cache d'.folder_counts b2.folder_counts folder_known lent.cache;
         seeds = all_known_later view.held b0.file_counts b2.file_counts (λ q is. known q (c.open_kits.ensures.kept.known q is)) c.in-Ok.seeds.items c.in-Ok.ensures.known;
         kits = λ n k lt. give_later look view b b2 folders known (slice_index_or more n k) (c.open_kits.ensures.opened n k lt).given;
       };
     }
+
+pub into_kits-kits-requires-clause-size : goal.into_kits-kits-requires-clause-size
+into_kits-kits-requires-clause-size g c = groups_many (locations_in g.F.Look.Look.place) c.args.planned.now.stores.groups c.args.planned.now.stores.retries c.args.held.stores.items c.requires.located c.requires.groups
 
 pub into_kits-kits-requires-clause-room : goal.into_kits-kits-requires-clause-room
 into_kits-kits-requires-clause-room g c = omega (arith, c.open_kits.ensures.room)
@@ -167,7 +177,7 @@ returns-in_default-clause-assembled g c = λ p ls plan is.
     let e = at c.let_go.new.files in
     let read = c.in_default.ensures.kept in
     let gone = c.let_go.ensures.kept in
-    stopped (map (location_in g.F.Look.Look.place) c.args.held.stores.items) c.args.held.cache (record { name = c.args.target.now; fresh = c.args.fresh }) c.args.planned.now.index (record { images = map image_name c.args.planned.now.seeds; listings = ls }) o (g.D.Dial.state c.args.dial.now) d e
+    stopped c.args.planned.now.stores c.args.held.cache (record { name = c.args.target.now; fresh = c.args.fresh }) c.args.planned.now.index (record { images = map image_name c.args.planned.now.seeds; listings = ls }) o (g.D.Dial.state c.args.dial.now) d e
     (named g c.args.held.cache c.args.held.shelf c.requires.held.lent.named) (cache_told g c.args.files.now c.args.held.shelf) (gone.files ∙ read.files) (back_writes o d b e (wrote_read d b read) gone)
 
 pub returns-in_default-clause-numbered : goal.returns-in_default-clause-numbered
@@ -180,14 +190,14 @@ returns-in_default-clause-kept g c =
     let d = at c.args.files.now in
     let b = at c.open_seeds.new.files in
     let e = at c.let_go.new.files in
-    unfilled g.row.D-Link.Denot g.F.Look.Look g.F.View.View g.D.Dial.state (map (location_in g.F.Look.Look.place) c.args.held.stores.items) c.args.planned.now.index o c.args.held.cache d e (named g c.args.held.cache c.args.held.shelf c.requires.held.lent.named) (cache_told g c.args.files.now c.args.held.shelf)
+    unfilled g.row.D-Link.Denot g.F.Look.Look g.F.View.View g.D.Dial.state c.args.planned.now.stores c.args.planned.now.index o c.args.held.cache d e (named g c.args.held.cache c.args.held.shelf c.requires.held.lent.named) (cache_told g c.args.files.now c.args.held.shelf)
     (back_writes o d b e (wrote_read d b c.in_default.ensures.kept) c.let_go.ensures.kept)
 
 pub returns-in_default-clause-dialed : goal.returns-in_default-clause-dialed
 returns-in_default-clause-dialed g c = (dials_none _, λ t. refl)
 
 pub returns-in_default-clause-asks : goal.returns-in_default-clause-asks
-returns-in_default-clause-asks g c = λ p ls plan is. asked_nothing (map (location_in g.F.Look.Look.place) c.args.held.stores.items) c.args.held.cache (record { name = c.args.target.now; fresh = c.args.fresh }) c.args.planned.now.index
+returns-in_default-clause-asks g c = λ p ls plan is. asked_nothing c.args.planned.now.stores c.args.held.cache (record { name = c.args.target.now; fresh = c.args.fresh }) c.args.planned.now.index
     (record { images = map image_name c.args.planned.now.seeds; listings = ls }) (see g c.args.held.shelf) (g.D.Dial.state c.args.dial.now) (g.F.Files.disk c.args.files.now) (g.F.Files.disk c.let_go.new.files) (never_fail g.F.Target.View.never_fails g.F.Folder.Look.never_fails) p plan
 
 pub returns-in_default-clause-used : goal.returns-in_default-clause-used
@@ -197,15 +207,18 @@ returns-in_default-clause-used g c =
     let view = g.F.View.View in
     let b = at c.open_seeds.new.files in
     let images = map image_name c.args.planned.now.seeds in
-    let names = map (location_in look.place) c.args.held.stores.items in
-    let folders = folders_reached c.args.held.cache names in
+    let groups = map (locations_in look.place) c.args.held.stores.items in
+    let folders = folders_reached c.args.held.cache groups in
     let has : HasNames look view images c.args.held = record {
       seeds = λ n none. subst (λ l. IsNoneOf n (names_among (map (seeds.seed_held view.held) l))) (sym c.requires.held.none) tt;
-      kits = subst (λ l. All (UsesNames look view images (folders_among names)) l) (sym c.requires.held.room.0) (All-nil (UsesNames look view images (folders_among names)));
+      kits = subst (λ l. All (UsesNames look view images (folders_among (stores_of groups))) l) (sym c.requires.held.room.0) (All-nil (UsesNames look view images (folders_among (stores_of groups))));
     } in
-    let opened = seeds_used images folders (at c.args.files.now) b (rw c.as_slice-names.ensures at c.in_default.ensures.used) in
-    let used = untouched_used c.args.target.now images folders (at c.args.files.now) b opened (at c.let_go.new.files) (c.let_go.ensures.used images has) in
-    record { files = used.files; folders = used.folders }
+    let d = at c.args.files.now in
+    let e = at c.let_go.new.files in
+    let opened = seeds_used images folders d b (rw c.as_slice-names.ensures at c.in_default.ensures.used) in
+    let used = untouched_used c.args.target.now images folders d b opened e (c.let_go.ensures.used images has) in
+    let named = subst (λ (n : List (List Location)). Uses (c.args.target.now ∷ images) (folders_reached c.args.held.cache n) d e) c.requires.located used in
+    record { files = named.files; folders = named.folders }
 
 -- ---- where OUT couldn't be taken
 
@@ -224,7 +237,7 @@ returns-in-Err-clause-assembled g c = λ p ls plan is.
     let took = c.in-Err.ensures in
     let gone = c.let_go-in-Err.ensures.kept in
     let le : count_at d.file_counts q ≤ count_at b.file_counts q = (reads_twice d b0 b read opened).counts q in
-    rw c.not_taken.ensures (untaken (map (location_in g.F.Look.Look.place) c.args.held.stores.items) c.args.held.cache (record { name = q; fresh = c.args.fresh }) c.args.planned.now.index (record { images = map image_name c.args.planned.now.seeds; listings = ls }) o (g.D.Dial.state c.args.dial.now) d e
+    rw c.not_taken.ensures (untaken c.args.planned.now.stores c.args.held.cache (record { name = q; fresh = c.args.fresh }) c.args.planned.now.index (record { images = map image_name c.args.planned.now.seeds; listings = ls }) o (g.D.Dial.state c.args.dial.now) d e
     (named g c.args.held.cache c.args.held.shelf c.requires.held.lent.named) (cache_told g c.args.files.now c.args.held.shelf) (gone.files ∙ took.err ∙ opened.files ∙ read.files) (back_writes o d b2 e (took_writes d b0 b b2 q read opened took.counts) gone) c.in-Err.fault
     (λ failed. rose_longer (count_at d.file_counts q) (count_at b2.file_counts q) (count_at e.file_counts q) (gone.counts q) (rose_later (count_at d.file_counts q) (count_at b.file_counts q) (count_at b2.file_counts q) le (took.faults.cause (ap Err failed)))))
 
@@ -247,7 +260,7 @@ returns-in-Err-clause-kept g c =
     let d = at c.args.files.now in
     let b2 = at c.take.new.self in
     let e = at c.let_go-in-Err.new.files in
-    unfilled g.row.D-Link.Denot g.F.Look.Look g.F.View.View g.D.Dial.state (map (location_in g.F.Look.Look.place) c.args.held.stores.items) c.args.planned.now.index o c.args.held.cache d e (named g c.args.held.cache c.args.held.shelf c.requires.held.lent.named) (cache_told g c.args.files.now c.args.held.shelf)
+    unfilled g.row.D-Link.Denot g.F.Look.Look g.F.View.View g.D.Dial.state c.args.planned.now.stores c.args.planned.now.index o c.args.held.cache d e (named g c.args.held.cache c.args.held.shelf c.requires.held.lent.named) (cache_told g c.args.files.now c.args.held.shelf)
     (back_writes o d b2 e (took_writes d (at c.open_seeds.new.files) (at c.open_kits.new.files) b2 c.args.target.now c.in-Ok.ensures.kept c.open_kits.ensures.kept c.in-Err.ensures.counts) c.let_go-in-Err.ensures.kept)
 
 pub returns-in-Err-clause-tells : goal.returns-in-Err-clause-tells
@@ -257,7 +270,7 @@ pub returns-in-Err-clause-dialed : goal.returns-in-Err-clause-dialed
 returns-in-Err-clause-dialed g c = (dials_none _, λ t. refl)
 
 pub returns-in-Err-clause-asks : goal.returns-in-Err-clause-asks
-returns-in-Err-clause-asks g c = λ p ls plan is. asked_nothing (map (location_in g.F.Look.Look.place) c.args.held.stores.items) c.args.held.cache (record { name = c.args.target.now; fresh = c.args.fresh }) c.args.planned.now.index
+returns-in-Err-clause-asks g c = λ p ls plan is. asked_nothing c.args.planned.now.stores c.args.held.cache (record { name = c.args.target.now; fresh = c.args.fresh }) c.args.planned.now.index
     (record { images = map image_name c.args.planned.now.seeds; listings = ls }) (see g c.args.held.shelf) (g.D.Dial.state c.args.dial.now) (g.F.Files.disk c.args.files.now) (g.F.Files.disk c.let_go-in-Err.new.files) (never_fail g.F.Target.View.never_fails g.F.Folder.Look.never_fails) p plan
 
 pub returns-in-Err-clause-used : goal.returns-in-Err-clause-used
@@ -273,16 +286,17 @@ returns-in-Err-clause-used g c =
     let e = at c.let_go-in-Err.new.files in
     let cache = c.args.held.cache in
     let images = map image_name c.args.planned.now.seeds in
-    let names = map (location_in look.place) c.args.held.stores.items in
+    let names = c.args.planned.now.stores in
     let more = c.open_kits.new.kits.items in
-    let names_are : c.as_slice-stores.result.now ≡ names = c.as_slice-stores.ensures ∙ sym c.requires.located in
-    let others = subst (λ (n : List Location). AreOpened look view state b0 b n images more) names_are (rw c.as_slice-names.ensures at c.open_kits.ensures.opened) in
-    let opened = opened_used images cache names d b0 b (rw c.as_slice-names.ensures at c.in-Ok.ensures.used) (subst (λ (n : List Location). Uses images (folders_among n) b0 b) names_are (rw c.as_slice-names.ensures at c.open_kits.ensures.used)) in
+    let others : AreOpened look view state b0 b names images more = rw c.as_slice-names.ensures at c.open_kits.ensures.opened in
+    let opened = opened_used images cache names.groups d b0 b (rw c.as_slice-names.ensures at c.in-Ok.ensures.used) (rw c.as_slice-names.ensures at c.open_kits.ensures.used) in
+    let kits : All (UsesNames look view images (folders_among (stores_of names.groups))) more = λ n x lt. opened_names look view state b0 b names images (slice_index_or more n x) (others n x lt) in
     let gone = c.let_go-in-Err.ensures.used images (record {
       seeds = viewed_names d b0 images (map (seeds.seed_held view.held) c.in-Ok.seeds.items) (rw c.as_slice-names.ensures at c.in-Ok.ensures.found);
-      kits = λ n x lt. opened_names look view state b0 b names images (slice_index_or more n x) (others n x lt);
+      kits = subst (λ (n : List (List Location)). All (UsesNames look view images (folders_among (stores_of n))) more) (sym c.requires.located) kits;
     }) in
-    let used = untaken_used c.args.target.now images (folders_reached cache names) d b opened b2 e c.in-Err.ensures.counts gone in
+    let named = subst (λ (n : List (List Location)). Uses images (folders_reached cache n) b2 e) c.requires.located gone in
+    let used = untaken_used c.args.target.now images (folders_reached cache names.groups) d b opened b2 e c.in-Err.ensures.counts named in
     record { files = used.files; folders = used.folders }
 
 -- ---- after the assembly
@@ -309,8 +323,8 @@ module _ (g : Over) (c : After-of_kits-held g) where
   abbrev state : g.row.D.Denot → DialState
   state = g.D.Dial.state
 
-  abbrev names : List Location
-  names = map (location_in g.F.Look.Look.place) c.args.held.stores.items
+  abbrev names : Stores
+  names = c.args.planned.now.stores
 
   abbrev images : List (List ℕ)
   images = map image_name c.args.planned.now.seeds
@@ -319,7 +333,7 @@ module _ (g : Over) (c : After-of_kits-held g) where
   out = record { name = c.args.target.now; fresh = c.args.fresh }
 
   abbrev OurKit : Type 0
-  OurKit = Kit (AnyStore g.row.F-Look.Denot g.row.D.Denot g.row.D-Link.Denot) g.row.F-View.Denot
+  OurKit = Kit (Grouped (AnyStore g.row.F-Look.Denot g.row.D.Denot g.row.D-Link.Denot)) g.row.F-View.Denot
 
   abbrev k : OurKit
   k = c.into_kits-kits.ensures.kits.0.kit
@@ -364,16 +378,13 @@ module _ (g : Over) (c : After-of_kits-held g) where
       by_first (words g) g.F.View.View made_by never cache_never t0 t1 f0 f1 (see g c.into_kits-kits.result.2) e0 e1 c.into_kits-kits.result.0.items (k ∷ more) c.assemble-ended.result.kits.items (j ∷ rest) c.assemble-ended.result.answer
       (ap (see g) into.shelf) into.kits.0.first c.of_kits-held.ensures.kits.first by.2
 
-  names_are : c.as_slice-stores.result.now ≡ names
-  names_are = c.as_slice-stores.ensures ∙ sym c.requires.located
-
   all : AreOpened g.F.Look.Look g.F.View.View state (with_cache e0 d') b names images (k ∷ more)
   all =
       let into = c.into_kits-kits.ensures.kits in
       let held = c.requires.held in
-      let others = subst (λ (n : List Location). AreOpened g.F.Look.Look g.F.View.View state b0 b n images more) names_are (rw c.as_slice-names.ensures at c.open_kits.ensures.opened) in
+      let others : AreOpened g.F.Look.Look g.F.View.View state b0 b names images more = rw c.as_slice-names.ensures at c.open_kits.ensures.opened in
       let gone = gone_seen e0 c.args.held.cache d'.folders cache_is held.gone in
-      opened_kits g.F.Look.Look g.F.View.View state e0 d' b0 b c.in-Ok.ensures.kept c.open_kits.ensures.kept images c.args.held.stores.items c.in-Ok.seeds.items k more into.0.stores_are into.0.seeds_are
+      opened_kits g.F.Look.Look g.F.View.View state e0 d' b0 b c.in-Ok.ensures.kept c.open_kits.ensures.kept names images c.args.held.stores.items c.in-Ok.seeds.items k more into.0.stores_are into.0.seeds_are c.requires.located
       held.found held.fresh held.unused held.lent.stores (rw c.as_slice-names.ensures at c.in-Ok.ensures.found) c.in-Ok.ensures.fresh c.in-Ok.ensures.known gone (looks_tell g c.args.files.now) others
 
   -- what is held can be given back
@@ -402,8 +413,8 @@ module _ (g : Over) (c : After-of_kits-held g) where
     out_known : IsSome (b4.file_counts c.args.target.now)
     out_known = read.known c.args.target.now c.in-Ok-take.ensures.known
 
-    dialed : DialsStores names (state c.args.dial.now) k1
-    dialed = back_dialed g.F.Look.Look g.F.Folder.Look g.F.View.View state c.of_kits-held.result (storage b2 (state c.args.dial.now)) (storage b4 k1) back names still.located still.kits
+    dialed : DialsStores (stores_of names.groups) (state c.args.dial.now) k1
+    dialed = back_dialed g.F.Look.Look g.F.Folder.Look g.F.View.View state c.of_kits-held.result (storage b2 (state c.args.dial.now)) (storage b4 k1) back names.groups still.located still.kits
 
     -- and then OUT
     module _ (e : Disk) (put : GivesFile b4 e c.args.target.now f1) where
@@ -413,12 +424,12 @@ module _ (g : Over) (c : After-of_kits-held g) where
           let wrote = wrote_then (with_cache e1 d') b4 e (back_writes e1 d' b2 b4 took read) (wrote_back b4 e c.args.target.now f1 put) in
           fills g.F.Look.Look g.F.View.View state (k ∷ more) names images c.args.planned.now.index e0 e1 c.args.held.cache d' b e cache_is (cache_told g c.args.files.now c.args.held.shelf) all made.stocked wrote
 
-      used : Uses (c.args.target.now ∷ images) (folders_reached c.args.held.cache names) d' e
+      used : Uses (c.args.target.now ∷ images) (folders_reached c.args.held.cache names.groups) d' e
       used =
-          let folders = folders_reached c.args.held.cache names in
-          let opened = opened_used images c.args.held.cache names d' b0 b (rw c.as_slice-names.ensures at c.in-Ok.ensures.used) (subst (λ (n : List Location). Uses images (folders_among n) b0 b) names_are (rw c.as_slice-names.ensures at c.open_kits.ensures.used)) in
-          let gave = subst (λ (n : List Location). Uses images (folders_reached c.of_kits-held.result.cache n) b2 b4) still.located (back.used images still.named) in
-          let gone = subst (λ (o : Option (List ℕ)). Uses images (folders_reached o names) b2 b4) (c.of_kits-held.ensures.cache ∙ c.into_kits-kits.ensures.cache) gave in
+          let folders = folders_reached c.args.held.cache names.groups in
+          let opened = opened_used images c.args.held.cache names.groups d' b0 b (rw c.as_slice-names.ensures at c.in-Ok.ensures.used) (rw c.as_slice-names.ensures at c.open_kits.ensures.used) in
+          let gave = subst (λ (n : List (List Location)). Uses images (folders_reached c.of_kits-held.result.cache n) b2 b4) still.located (back.used images still.named) in
+          let gone = subst (λ (o : Option (List ℕ)). Uses images (folders_reached o names.groups) b2 b4) (c.of_kits-held.ensures.cache ∙ c.into_kits-kits.ensures.cache) gave in
           made_used c.args.target.now images folders d' b opened b2 b4 e f1 c.in-Ok-take.ensures.counts gone put
 
       run : e.files ≡ option_map (λ m. at_name m c.args.target.now t1) b4.files
@@ -460,8 +471,8 @@ module _ (g : Over) (c : After-of_kits-held g) where
             b4 = b4;
             shelf = rw last.shelf at back.cache;
             stores = back.stores.0;
-            given = subst (λ xs. All (IsGiven look.place look.faults state (storage back.cached back.first.dial) (storage back.closed k1)) xs) (sym last.kits.stores_are) back.given;
-            ended = subst (λ xs. k1.ended ≡ fold (with_those state) back.first.dial.ended xs) (sym last.kits.stores_are) back.ended;
+            given = subst (λ xs. All (IsGroupGiven look.place look.faults state (storage back.cached back.first.dial) (storage back.closed k1)) xs) (sym last.kits.stores_are) back.given;
+            ended = subst (λ xs. k1.ended ≡ fold (with_group state) back.first.dial.ended xs) (sym last.kits.stores_are) back.ended;
             seeds = back.seeds;
             added = subst (λ xs. All (λ s. raised (count_at back.closed.file_counts (label_in view.held s)) (seeds.faults_in view.faults s) ≤ count_at b4.file_counts (label_in view.held s)) xs) (sym last.kits.seeds_are) back.added;
             put = put;
@@ -478,13 +489,32 @@ give_back-requires g c = record { given = can_give g (goal.at.give_back-requires
 pub give-requires-clause-known : goal.give-requires-clause-known
 give-requires-clause-known g c = out_known g (goal.at.give-requires-clause-known g c).After-of_kits-held (g.F.Files.disk c.give_back.new.files) (g.D.Dial.state c.give_back.new.dial) c.give_back.ensures.given
 
+pub numbered-answer-requires : goal.numbered-answer-requires
+numbered-answer-requires g c =
+    let here = (goal.at.numbered-answer-requires g c).After-of_kits-held in
+    record {
+      few = rw c.as_slice-groups.ensures c.requires.groups.few;
+      sizes = rw (c.as_slice-groups.ensures, c.as_slice-opened.ensures.value) (sizes_stand g.F.Look.Look.place here.of_kits-held.result.stores.items here.args.planned.now.stores.groups (still g here).located);
+    }
+
 pub returns-clause-assembled : goal.returns-clause-assembled
+unfolding run
 returns-clause-assembled g c = λ p ls plan is.
     let here = (goal.at.returns-clause-assembled g c).After-of_kits-held in
     let at = g.F.Files.disk in
     let state = g.D.Dial.state in
-    rw c.answer_of.ensures (run_assembled g.F.Look.Look g.F.View.View state g.F.Target.View.never_fails g.F.Folder.Look.never_fails (at c.args.files.now) (see g c.args.held.shelf) (state c.args.dial.now) (at c.give.new.self) (state c.give_back.new.dial) (names g here) (images g here) c.args.held.cache (out g here) c.args.planned.now.index c.args.planned.now.places c.assemble-ended.result.answer
-    (run g here (at c.give_back.new.files) (state c.give_back.new.dial) c.give_back.ensures.given (at c.give.new.self) c.give.ensures.counts c.give.ensures.files) p ls plan is)
+    let w = storage (with_cache (e0 g here) (d' g here)) (state c.args.dial.now) in
+    let v = storage (at c.give.new.self) (state c.give_back.new.dial) in
+    let l = c.args.planned.now.index in
+    let z : Seeds = record { images = images g here; listings = ls } in
+    let made = run_assembled g.F.Look.Look g.F.View.View state g.F.Target.View.never_fails g.F.Folder.Look.never_fails (at c.args.files.now) (see g c.args.held.shelf) (state c.args.dial.now) (at c.give.new.self) (state c.give_back.new.dial) (names g here) (images g here) c.args.held.cache (out g here) l c.args.planned.now.places c.assemble-ended.result.answer
+    (run g here (at c.give_back.new.files) (state c.give_back.new.dial) c.give_back.ensures.given (at c.give.new.self) c.give.ensures.counts c.give.ensures.files) p ls plan is in
+    let groups = c.args.planned.now.stores.groups in
+    let answer : c.numbered-answer.result ≡ answer_of_stores groups (map (λ q. q.active) (j g here).chain.stores) (answer_of_assembly c.assemble-ended.result.answer) =
+    c.numbered-answer.ensures.value ∙ ap (λ (n : List (List Location)). answer_of_stores n (map (λ q. q.active) c.as_slice-opened.result.now) c.answer_of.result) c.as_slice-groups.ensures
+    ∙ ap (λ (xs : List (Grouped (AnyStore g.row.F-Look.Denot g.row.D.Denot g.row.D-Link.Denot))). answer_of_stores groups (map (λ q. q.active) xs) c.answer_of.result) (c.as_slice-opened.ensures.value ∙ sym c.of_kits-held.ensures.kits.stores_are)
+    ∙ ap (λ (r : Result Unit Outcome). answer_of_stores groups (map (λ q. q.active) (j g here).chain.stores) r) c.answer_of.ensures in
+    subst (λ (r : Result Unit Outcome). Assembled w v (names g here) c.args.held.cache (out g here) l z r) (sym answer) made
 
 pub returns-clause-asks : goal.returns-clause-asks
 returns-clause-asks g c = λ p ls plan is.

@@ -1,6 +1,7 @@
 use Rattle.std.proofs.Common.{◌≡◌, arith, map}
 use Rattle.command_steps.proofs.Consulted.{reads_none, reads_twice}
 use Rattle.command_steps.proofs.Used.{all_more, uses_none, uses_twice}
+use Rattle.command_groups.specs.Groups.{stores_of}
 use Rattle.command_steps.specs.Seeds.{image_name}
 use Rattle.command_steps.specs.Uses.{folders_among}
 use Rattle.command_steps.proofs.InTurn.{put_last}
@@ -18,7 +19,7 @@ loop-opened-init g c =
       counted = c.requires.some;
       room = c.requires.room.1;
       reads = reads_none d;
-      used = uses_none (map image_name c.args.seeds.now) (folders_among c.args.stores.now) d;
+      used = uses_none (map image_name c.args.seeds.now) (folders_among (stores_of c.args.stores.now.groups)) d;
     }
 
 pub unwrap-requires : goal.unwrap-requires
@@ -50,7 +51,7 @@ loop-opened-preserved g c =
       counted = omega (arith, c.loop-opened-test.true);
       room = omega (arith, inv.room, c.push.ensures.capacity);
       reads = reads_twice d b e inv.reads c.in-Some.ensures.kept;
-      used = uses_twice images (folders_among stores) d b e inv.used c.in-Some.ensures.used;
+      used = uses_twice images (folders_among (stores_of stores.groups)) d b e inv.used c.in-Some.ensures.used;
     }
 
 pub returns-in_default : goal.returns-in_default
@@ -71,7 +72,7 @@ returns-in_default g c =
       few = omega (arith, inv.few, inv.counted);
       room = omega (arith, inv.few, inv.counted, inv.room);
       kept = reads_twice d b e inv.reads c.in_default.ensures.kept;
-      used = uses_twice images (folders_among stores) d b e inv.used c.in_default.ensures.used;
+      used = uses_twice images (folders_among (stores_of stores.groups)) d b e inv.used c.in_default.ensures.used;
     }
 
 pub returns-clause-few : goal.returns-clause-few

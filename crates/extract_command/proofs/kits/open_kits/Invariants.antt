@@ -1,4 +1,5 @@
 use Rattle.std.proofs.Common.{◌≡◌, ◌+◌, ◌≤◌, All, map, vec_capacity, vec_len}
+use Rattle.command_groups.specs.Groups.{stores_of}
 use Rattle.command_steps.specs.Seeds.{image_name}
 use Rattle.command_steps.specs.Uses.{Uses, folders_among}
 use Rattle.command_worlds.specs.Worlds.{Reads}
@@ -13,5 +14,5 @@ invariant-loop-opened g l = record {
   counted : l._opened ≤ l.fn.workers;
   room : l.fn.workers ≤ vec_capacity l.kits;
   reads : Reads (g.F.Files.disk l.fn.files) (g.F.Files.disk l.files);
-  used : Uses (map image_name l.fn.seeds) (folders_among l.fn.stores) (g.F.Files.disk l.fn.files) (g.F.Files.disk l.files);
+  used : Uses (map image_name l.fn.seeds) (folders_among (stores_of l.fn.stores.groups)) (g.F.Files.disk l.fn.files) (g.F.Files.disk l.files);
 }

@@ -68,13 +68,16 @@ invariant_of-result g c =
     let old = g.T.View.held c.args.target in
     let based : IfSome s.held.bytes (λ t. r.base ≡ t) = subst (λ (h : Held). IfSome h.bytes (λ t. r.base ≡ t)) (sym does.ok)
     (if_map (λ t. resized t (image_length l)) old.bytes (λ t. r.base ≡ t) over.base) in
-    let tells : is_some s.held.bytes ≡ r.tells = resized_tells old s.held (image_length l) does.ok ∙ g.met.T.View.told c.args.target ∙ sym over.tells in (
+    let shown : is_some s.held.bytes ≡ g.T.View.tells = resized_tells old s.held (image_length l) does.ok ∙ g.met.T.View.told c.args.target in
+    let tells : is_some s.held.bytes ≡ r.tells = shown ∙ sym over.tells in (
       record {
         listing = sym over.listing;
         one = λ alone. c.requires.one (c.args.kits.ok.0 ∙ sym many ∙ alone);
         shards = over.shards ∙ ap (λ (k : ℕ). shards_of k (count_of l)) (c.args.kits.ok.0 ∙ sym many) ∙ ap (λ (m : Listing). shards_of n (count_of m)) (sym over.listing);
         base = based;
         tells = sym over.tells;
+        shown = shown;
+        rises = omega (arith, does.before, does.faults);
         first = record {
           size = c.rules.ensures.counted;
           first = subst (λ (m : Listing). FirstFates s.fates (count_of m)) (sym over.listing) does.first;

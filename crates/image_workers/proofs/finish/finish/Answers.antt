@@ -31,9 +31,9 @@ returns-clause-assembled g c = λ o given old comes.
     subst (λ (h : Held). AssembledBeside g.S.Store g.V.View r t o h.bytes old c1 (from_kit (g.T.View.faults c.into_target.result)) c.match-retry_unless.answer) (sym c.into_target.ensures.held)
     (subst (λ (n : ℕ). AssembledBeside g.S.Store g.V.View r t o b.held.bytes old c1 (from_kit n) c.match-retry_unless.answer) (sym c.into_target.ensures.faults)
     (elim c.match-retry_unless.branch [
-      | in-Ok q ↦ rw q.answer-is (beside_ok g.S.Store g.V.View r d x o given old w c1 c.args.kit b res c.requires.ready.wants (seen_alone g.F.Look c.args.cache) comes c.keeps.ensures.faults c.rules.ensures.bytes c.rules.ensures.size c.keeps.ensures.kept
+      | in-Ok q ↦ rw q.answer-is (beside_ok g.S.Store g.V.View r d x o given old w c1 c.args.kit b res c.requires.ready.wants (seen_alone g.F.Look c.args.cache) comes c.requires.faults c.rules.ensures.bytes c.rules.ensures.size c.requires.kept
           c.retry_unless.ensures.passes c.retry_unless.ensures.ends q.in-Ok.field-0 q.in-Ok.is q.report_of.result)
-      | in-Err q ↦ rw q.answer-is (beside_err g.S.Store g.V.View r d x o given old w c1 c.args.kit b res c.requires.ready.wants (seen_alone g.F.Look c.args.cache) comes c.keeps.ensures.faults c.rules.ensures.bytes c.rules.ensures.size c.keeps.ensures.kept
+      | in-Err q ↦ rw q.answer-is (beside_err g.S.Store g.V.View r d x o given old w c1 c.args.kit b res c.requires.ready.wants (seen_alone g.F.Look c.args.cache) comes c.requires.faults c.rules.ensures.bytes c.rules.ensures.size c.requires.kept
           c.retry_unless.ensures.passes c.retry_unless.ensures.ends q.in-Err.fault q.in-Err.is)
     ]))
 

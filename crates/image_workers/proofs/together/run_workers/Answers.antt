@@ -6,7 +6,6 @@ use Rattle.std.specs.Vec.{with_items}
 use Rattle.assembler.specs.OneKit.{lent}
 use Rattle.assembler.specs.Stages.{task, Stage}
 use Rattle.assembler.specs.declared.fault.ExtractFault.TheVariants as faults
-use Rattle.assembler.specs.declared.fault.ExtractFault.{ExtractFault}
 use Rattle.caibx_codec.specs.Listing.{count_of, kind_of}
 use Rattle.assembler.proofs.Others.{seen_alone}
 use Rattle.cache_store.specs.Shelves.{MayAdd, Shelf, Shelved}
@@ -43,21 +42,21 @@ use Rattle.image_workers.proofs.together.run_workers.Goals as goal
 abbrev door_seen : (g : Over) → Option (Shelved g.row.F.Denot) → Option Shelf
 door_seen g cache = door_shelf (kind_named g.N.FolderName.kind) g.N.FolderName.opening g.N.FolderName.pairs g.N.FolderName.stores 0 (seen g.F.Look cache)
 
-lanes_are : (g : Over) (c : After-deref_mut g) → map tools_of c.deref_mut.result.now ≡ map (λ (q : Kit g.row.S.Denot g.row.V.Denot). Some (q, c.args.shards.fates)) c.args.kits.items
+lanes_are : (g : Over) (c : After-deref_mut g) → map tools_of c.deref_mut.result.now ≡ map (λ (q : Kit g.row.S.Denot g.row.V.Denot). Some (q, c.args.shards.fates)) c.args.workers.kits.items
 lanes_are g c = ap (map tools_of) c.deref_mut.ensures.value ∙ c.lanes_of-room.ensures.lanes
 
-many : (g : Over) (c : After-deref_mut g) → length c.deref_mut.result.now ≡ length c.args.kits.items
-many g c = as_many c.args.kits.items c.args.shards.fates c.deref_mut.result.now (lanes_are g c)
+many : (g : Over) (c : After-deref_mut g) → length c.deref_mut.result.now ≡ length c.args.workers.kits.items
+many g c = as_many c.args.workers.kits.items c.args.shards.fates c.deref_mut.result.now (lanes_are g c)
 
 pub pass_all-shards-requires-clause-ready : goal.pass_all-shards-requires-clause-ready
 pass_all-shards-requires-clause-ready g c κs within =
     let here = (goal.at.pass_all-shards-requires-clause-ready g c).After-deref_mut in
-    ready_at c.args.kits.items c.args.shards.fates c.deref_mut.result.now (lanes_are g here) (IsReadyFor g.S.Store g.V.View g.R.RunName.run (task g.R.RunName.run.listing c.args.wants.now) (door_seen g c.args.cache)) c.requires.ready
+    ready_at c.args.workers.kits.items c.args.shards.fates c.deref_mut.result.now (lanes_are g here) (IsReadyFor g.S.Store g.V.View g.R.RunName.run (task g.R.RunName.run.listing c.args.wants.now) (door_seen g c.args.cache)) c.requires.ready
 
-many_kits : (g : Over) (c : After-deref_mut g) → 2 ≤ length c.args.kits.items
+many_kits : (g : Over) (c : After-deref_mut g) → 2 ≤ length c.args.workers.kits.items
 many_kits g c = search rules
 
-some_kit : (g : Over) (c : After-deref_mut g) → 0 < length c.args.kits.items
+some_kit : (g : Over) (c : After-deref_mut g) → 0 < length c.args.workers.kits.items
 some_kit g c = omega (arith, many_kits g c)
 
 pub pass_all-shards-requires-clause-some : goal.pass_all-shards-requires-clause-some
@@ -73,18 +72,18 @@ kits_of-kits-requires-clause-there g c =
     let here = (goal.at.kits_of-kits-requires-clause-there g c).After-some_lacked-lacked in
     let early = (goal.at.kits_of-kits-requires-clause-there g c).After-deref_mut in
     subst (λ (ys : List (Lane g.row.S.Denot g.row.V.Denot)). All (λ a. IsSome (kit_of a)) ys) (sym (after g here))
-    (all_there c.args.kits.items c.args.shards.fates c.deref_mut.result.now (lanes_are g early) g.S.Store g.V.View g.R.RunName.run (task g.R.RunName.run.listing c.args.wants.now) (door_seen g c.args.cache) g.T.View.never_fails g.F.Look.never_fails
+    (all_there c.args.workers.kits.items c.args.shards.fates c.deref_mut.result.now (lanes_are g early) g.S.Store g.V.View g.R.RunName.run (task g.R.RunName.run.listing c.args.wants.now) (door_seen g c.args.cache) g.T.View.never_fails g.F.Look.never_fails
     c.pass_all-shards.new.lanes c.pass_all-shards.ensures.lanes c.pass_all-shards.ensures.each)
 
 pub kits_of-kits-requires-clause-room : goal.kits_of-kits-requires-clause-room
 kits_of-kits-requires-clause-room g c =
     let early = (goal.at.kits_of-kits-requires-clause-room g c).After-deref_mut in
-    omega (arith, c.lanes_of-room.ensures.room, many g early, c.deref_mut.ensures.len, (let same : length c.args.kits.items ≡ c.args.kits.len = search rules in same))
+    omega (arith, c.lanes_of-room.ensures.room, many g early, c.deref_mut.ensures.len, (let same : length c.args.workers.kits.items ≡ c.args.workers.kits.len = search rules in same))
 
 pub kits_of-kits-requires-clause-lists : goal.kits_of-kits-requires-clause-lists
 kits_of-kits-requires-clause-lists g c =
     let early = (goal.at.kits_of-kits-requires-clause-lists g c).After-deref_mut in
-    omega (arith, c.lanes_of-room.ensures.lists, many g early, c.deref_mut.ensures.len, (let same : length c.args.kits.items ≡ c.args.kits.len = search rules in same))
+    omega (arith, c.lanes_of-room.ensures.lists, many g early, c.deref_mut.ensures.len, (let same : length c.args.workers.kits.items ≡ c.args.workers.kits.len = search rules in same))
 
 -- the kits as they come out of the lanes
 outs_are : (g : Over) (c : In-Some g) → reverse c.kits_of-kits.result.0.items ≡ c.in-Some.kit ∷ reverse c.pop.new.self.items
@@ -93,27 +92,27 @@ outs_are g c = ap reverse c.in-Some.ensures.items ∙ reverse-append c.pop.new.s
 kits_are : (g : Over) (c : In-Some g) → map (λ (q : Kit g.row.S.Denot g.row.V.Denot). Some q) (reverse c.kits_of-kits.result.0.items) ≡ map kit_of c.pass_all-shards.new.lanes
 kits_are g c = c.kits_of-kits.ensures.kits ∙ ap (map kit_of) (with_items_is c.lanes_of-room.result.2 c.pass_all-shards.new.lanes (omega (arith, c.pass_all-shards.ensures.lanes, c.deref_mut.ensures.len)))
 
-lanes_so : (g : Over) (c : In-Some g) → map tools_of c.deref_mut.result.now ≡ map (λ (q : Kit g.row.S.Denot g.row.V.Denot). Some (q, c.args.shards.fates)) c.args.kits.items
+lanes_so : (g : Over) (c : In-Some g) → map tools_of c.deref_mut.result.now ≡ map (λ (q : Kit g.row.S.Denot g.row.V.Denot). Some (q, c.args.shards.fates)) c.args.workers.kits.items
 lanes_so g c = ap (map tools_of) c.deref_mut.ensures.value ∙ c.lanes_of-room.ensures.lanes
 
 abbrev none_there : (g : Over) → Lane g.row.S.Denot g.row.V.Denot
 none_there g = record { tools = None; lacked = false }
 
 -- what each worker has done
-went : (g : Over) (c : In-Some g) (k : ℕ) (q p : Kit g.row.S.Denot g.row.V.Denot) → k < length c.args.kits.items
-    → (n : List Fate) × HasWorked g.S.Store g.V.View g.R.RunName.run (task g.R.RunName.run.listing c.args.wants.now) (door_seen g c.args.cache) g.T.View.never_fails g.F.Look.never_fails k (slice_index_or c.args.kits.items k q) c.args.shards.fates
+went : (g : Over) (c : In-Some g) (k : ℕ) (q p : Kit g.row.S.Denot g.row.V.Denot) → k < length c.args.workers.kits.items
+    → (n : List Fate) × HasWorked g.S.Store g.V.View g.R.RunName.run (task g.R.RunName.run.listing c.args.wants.now) (door_seen g c.args.cache) g.T.View.never_fails g.F.Look.never_fails k (slice_index_or c.args.workers.kits.items k q) c.args.shards.fates
     (slice_index_or (reverse c.kits_of-kits.result.0.items) k p) n (slice_index_or c.pass_all-shards.new.lanes k (none_there g)).lacked
-went g c = worked_at c.args.kits.items c.args.shards.fates c.deref_mut.result.now (lanes_so g c) g.S.Store g.V.View g.R.RunName.run (task g.R.RunName.run.listing c.args.wants.now) (door_seen g c.args.cache) g.T.View.never_fails g.F.Look.never_fails
+went g c = worked_at c.args.workers.kits.items c.args.shards.fates c.deref_mut.result.now (lanes_so g c) g.S.Store g.V.View g.R.RunName.run (task g.R.RunName.run.listing c.args.wants.now) (door_seen g c.args.cache) g.T.View.never_fails g.F.Look.never_fails
     c.pass_all-shards.new.lanes c.pass_all-shards.ensures.lanes c.pass_all-shards.ensures.each (reverse c.kits_of-kits.result.0.items) (kits_are g c)
 
-many_there : (g : Over) (c : In-Some g) → 2 ≤ length c.args.kits.items
+many_there : (g : Over) (c : In-Some g) → 2 ≤ length c.args.workers.kits.items
 many_there g c = search rules
 
-some_one : (g : Over) (c : In-Some g) → 0 < length c.args.kits.items
+some_one : (g : Over) (c : In-Some g) → 0 < length c.args.workers.kits.items
 some_one g c = omega (arith, many_there g c)
 
 first_kit : (g : Over) (c : In-Some g) → Kit g.row.S.Denot g.row.V.Denot
-first_kit g c = a_kit c.args.kits.items (some_one g c)
+first_kit g c = a_kit c.args.workers.kits.items (some_one g c)
 
 -- and what it knows then
 abbrev lists_of : (g : Over) (c : In-Some g) → List (List Fate)
@@ -123,29 +122,29 @@ lists_are : (g : Over) (c : In-Some g) → map (λ (n : List Fate). Some n) (lis
 lists_are g c = map_twice (λ (v : Vec Fate). v.items) (λ (n : List Fate). Some n) c.kits_of-kits.result.1.items
     ∙ c.kits_of-kits.ensures.known ∙ ap (map known_of) (with_items_is c.lanes_of-room.result.2 c.pass_all-shards.new.lanes (omega (arith, c.pass_all-shards.ensures.lanes, c.deref_mut.ensures.len)))
 
-knew : (g : Over) (c : In-Some g) (k : ℕ) (q p : Kit g.row.S.Denot g.row.V.Denot) → k < length c.args.kits.items
-    → HasWorked g.S.Store g.V.View g.R.RunName.run (task g.R.RunName.run.listing c.args.wants.now) (door_seen g c.args.cache) g.T.View.never_fails g.F.Look.never_fails k (slice_index_or c.args.kits.items k q) c.args.shards.fates
+knew : (g : Over) (c : In-Some g) (k : ℕ) (q p : Kit g.row.S.Denot g.row.V.Denot) → k < length c.args.workers.kits.items
+    → HasWorked g.S.Store g.V.View g.R.RunName.run (task g.R.RunName.run.listing c.args.wants.now) (door_seen g c.args.cache) g.T.View.never_fails g.F.Look.never_fails k (slice_index_or c.args.workers.kits.items k q) c.args.shards.fates
     (slice_index_or (reverse c.kits_of-kits.result.0.items) k p) (slice_index_or (lists_of g c) k []) (slice_index_or c.pass_all-shards.new.lanes k (none_there g)).lacked
-knew g c = knew_at c.args.kits.items c.args.shards.fates c.deref_mut.result.now (lanes_so g c) g.S.Store g.V.View g.R.RunName.run (task g.R.RunName.run.listing c.args.wants.now) (door_seen g c.args.cache) g.T.View.never_fails g.F.Look.never_fails
+knew g c = knew_at c.args.workers.kits.items c.args.shards.fates c.deref_mut.result.now (lanes_so g c) g.S.Store g.V.View g.R.RunName.run (task g.R.RunName.run.listing c.args.wants.now) (door_seen g c.args.cache) g.T.View.never_fails g.F.Look.never_fails
     c.pass_all-shards.new.lanes c.pass_all-shards.ensures.lanes c.pass_all-shards.ensures.each (reverse c.kits_of-kits.result.0.items) (kits_are g c) (lists_of g c) (lists_are g c)
 
 -- there are as many lists as kits
-many_lists : (g : Over) (c : In-Some g) → length c.kits_of-kits.result.1.items ≡ length c.args.kits.items
+many_lists : (g : Over) (c : In-Some g) → length c.kits_of-kits.result.1.items ≡ length c.args.workers.kits.items
 many_lists g c =
     let vecs = c.kits_of-kits.result.1.items in
     sym (length-map vecs (λ (v : Vec Fate). v.items)) ∙ sym (length-map (lists_of g c) (λ (n : List Fate). Some n)) ∙ ap length (lists_are g c) ∙ length-map c.pass_all-shards.new.lanes known_of
-    ∙ c.pass_all-shards.ensures.lanes ∙ as_many c.args.kits.items c.args.shards.fates c.deref_mut.result.now (lanes_so g c)
+    ∙ c.pass_all-shards.ensures.lanes ∙ as_many c.args.workers.kits.items c.args.shards.fates c.deref_mut.result.now (lanes_so g c)
 
 -- the first has
 first_went : (g : Over) (c : In-Some g) (q : Kit g.row.S.Denot g.row.V.Denot)
-    → (n : List Fate) × HasWorked g.S.Store g.V.View g.R.RunName.run (task g.R.RunName.run.listing c.args.wants.now) (door_seen g c.args.cache) g.T.View.never_fails g.F.Look.never_fails 0 (slice_index_or c.args.kits.items 0 q) c.args.shards.fates
+    → (n : List Fate) × HasWorked g.S.Store g.V.View g.R.RunName.run (task g.R.RunName.run.listing c.args.wants.now) (door_seen g c.args.cache) g.T.View.never_fails g.F.Look.never_fails 0 (slice_index_or c.args.workers.kits.items 0 q) c.args.shards.fates
     c.in-Some.kit n (slice_index_or c.pass_all-shards.new.lanes 0 (none_there g)).lacked
 first_went g c q =
     let h = went g c 0 q c.in-Some.kit (some_one g c) in
     let is : slice_index_or (reverse c.kits_of-kits.result.0.items) 0 c.in-Some.kit ≡ c.in-Some.kit = ap (λ (zs : List (Kit g.row.S.Denot g.row.V.Denot)). slice_index_or zs 0 c.in-Some.kit) (outs_are g c) in (
       h.0,
       subst (λ (b : Kit g.row.S.Denot g.row.V.Denot). HasWorked g.S.Store g.V.View g.R.RunName.run (task g.R.RunName.run.listing c.args.wants.now) (door_seen g c.args.cache) g.T.View.never_fails g.F.Look.never_fails 0
-          (slice_index_or c.args.kits.items 0 q) c.args.shards.fates b h.0 (slice_index_or c.pass_all-shards.new.lanes 0 (none_there g)).lacked) is h.1,
+          (slice_index_or c.args.workers.kits.items 0 q) c.args.shards.fates b h.0 (slice_index_or c.pass_all-shards.new.lanes 0 (none_there g)).lacked) is h.1,
     )
 
 -- ---- the cache
@@ -156,15 +155,15 @@ at_first g c = seen g.F.Look c.args.cache
 abbrev between : (g : Over) (c : In-Some g) → Option Shelf
 between g c = seen g.F.Look c.pass_all-shards.result.1
 
-door_is : (g : Over) (c : In-Some g) → door_seen g c.args.cache ≡ door g.S.Store g.R.RunName.run.listing c.args.kits.items g.N.FolderName.opening (at_first g c)
+door_is : (g : Over) (c : In-Some g) → door_seen g c.args.cache ≡ door g.S.Store g.R.RunName.run.listing c.args.workers.kits.items g.N.FolderName.opening (at_first g c)
 door_is g c =
     ap (λ (k : DigestKind). door_shelf k g.N.FolderName.opening g.N.FolderName.pairs g.N.FolderName.stores 0 (at_first g c)) c.requires.kind
     ∙ ap (λ (p : Option (List (List ℕ × ℕ))). door_shelf (kind_of g.R.RunName.run.listing) g.N.FolderName.opening p g.N.FolderName.stores 0 (at_first g c)) c.requires.pairs
     ∙ ap (λ (m : Option (List (Map (List ℕ)))). door_shelf (kind_of g.R.RunName.run.listing) g.N.FolderName.opening (Some (pairs_of g.R.RunName.run.listing)) m 0 (at_first g c)) c.requires.stores
 
-added : (g : Over) (c : In-Some g) → Stocked (Adds g.S.Store g.R.RunName.run.listing c.args.kits.items) (at_first g c) (between g c)
+added : (g : Over) (c : In-Some g) → Stocked (Adds g.S.Store g.R.RunName.run.listing c.args.workers.kits.items) (at_first g c) (between g c)
 added g c =
-    subst (λ (p : Option (List (List ℕ × ℕ))). Stocked (MayAdd (kind_of g.R.RunName.run.listing) p (all_told (map g.S.Store.holds (all_stores c.args.kits.items)))) (at_first g c) (between g c)) c.requires.pairs
+    subst (λ (p : Option (List (List ℕ × ℕ))). Stocked (MayAdd (kind_of g.R.RunName.run.listing) p (all_told (map g.S.Store.holds (all_stores c.args.workers.kits.items)))) (at_first g c) (between g c)) c.requires.pairs
     (subst (λ (m : Option (List (Map (List ℕ)))). Stocked (MayAdd (kind_of g.R.RunName.run.listing) g.N.FolderName.pairs m) (at_first g c) (between g c)) c.requires.stores
     (subst (λ (k : DigestKind). Stocked (MayAdd k g.N.FolderName.pairs g.N.FolderName.stores) (at_first g c) (between g c)) c.requires.kind c.pass_all-shards.ensures.stocked))
 
@@ -173,13 +172,13 @@ opens g c = named_opens (kind_named g.N.FolderName.kind) g.N.FolderName.opening 
 
 gave : (g : Over) (c : In-Some g) → GivesNoMore (kind_of g.R.RunName.run.listing) (given_maps (door_seen g c.args.cache)) (between g c)
 gave g c = subst (λ (e : Option Shelf). GivesNoMore (kind_of g.R.RunName.run.listing) (given_maps e) (between g c)) (sym (door_is g c))
-    (door_gave g.S.Store g.R.RunName.run.listing c.args.kits.items g.N.FolderName.opening (at_first g c) (opens g c) (between g c) (seen_alone g.F.Look c.pass_all-shards.result.1) (added g c))
+    (door_gave g.S.Store g.R.RunName.run.listing c.args.workers.kits.items g.N.FolderName.opening (at_first g c) (opens g c) (between g c) (seen_alone g.F.Look c.pass_all-shards.result.1) (added g c))
 
 -- ---- the second pass
 
 came : (g : Over) (c : In-Some g) (old : Held) (f : ℕ) → BegunBeside g.R.RunName.run old f c.args.shards → (q : Kit g.row.S.Denot g.row.V.Denot)
     → ComesFrom g.S.Store g.V.View g.R.RunName.run (task g.R.RunName.run.listing c.args.wants.now) old.bytes (given_maps (door_seen g c.args.cache))
-    (sources f (slice_index_or c.args.kits.items 0 q).seeds.items (at_first g c) (slice_index_or c.args.kits.items 0 q).chain) c.pass_all-shards.result.0 (between g c) c.in-Some.kit
+    (sources f (slice_index_or c.args.workers.kits.items 0 q).seeds.items (at_first g c) (slice_index_or c.args.workers.kits.items 0 q).chain) c.pass_all-shards.result.0 (between g c) c.in-Some.kit
 came g c old f begun q =
     let step = (first_went g c q).1.passed.stretch.step in
     record {
@@ -189,7 +188,7 @@ came g c old f begun q =
       tells = c.keeps-2.ensures.tells ∙ c.requires.tells;
       permits = c.requires.permits q;
       gives = gave g c;
-      falls = stocked_falls (Adds g.S.Store g.R.RunName.run.listing c.args.kits.items) (at_first g c) (between g c) (added g c);
+      falls = stocked_falls (Adds g.S.Store g.R.RunName.run.listing c.args.workers.kits.items) (at_first g c) (between g c) (added g c);
       seeds = step.seeds;
       stores = step.stores;
     }
@@ -199,10 +198,10 @@ finish-target-requires-clause-ready g c =
     let here = (goal.at.finish-target-requires-clause-ready g c).In-Some in
     let q = first_kit g here in
     let h = first_went g here q in
-    ready_again g.S.Store g.V.View g.R.RunName.run c.args.wants.now.plan.now c.args.wants.now.places.now (door_seen g c.args.cache) g.T.View.never_fails g.F.Look.never_fails (slice_index_or c.args.kits.items 0 q)
+    ready_again g.S.Store g.V.View g.R.RunName.run c.args.wants.now.plan.now c.args.wants.now.places.now (door_seen g c.args.cache) g.T.View.never_fails g.F.Look.never_fails (slice_index_or c.args.workers.kits.items 0 q)
     c.in-Some.kit c.args.shards.fates h.0
     (slice_index_or c.pass_all-shards.new.lanes 0 (none_there g)).lacked c.pass_all-shards.result.0 (between g here)
-    (stocked_kind (Adds g.S.Store g.R.RunName.run.listing c.args.kits.items) (at_first g here) (between g here) (kind_of g.R.RunName.run.listing) (added g here)
+    (stocked_kind (Adds g.S.Store g.R.RunName.run.listing c.args.workers.kits.items) (at_first g here) (between g here) (kind_of g.R.RunName.run.listing) (added g here)
     (subst (λ (k : DigestKind). IfSome (at_first g here) (λ s. s.kind ≡ k)) c.requires.kind
     (named_kind (kind_named g.N.FolderName.kind) g.N.FolderName.opening g.N.FolderName.place g.N.FolderName.faults (at_first g here) c.requires.named)))
     (c.requires.ready 0 q (some_one g here)) h.1
@@ -214,7 +213,7 @@ finish-target-requires-clause-may g c =
     let d = c.args.wants.now.plan.now in
     let x = c.args.wants.now.places.now in
     let q = first_kit g here in
-    let first = slice_index_or c.args.kits.items 0 q in
+    let first = slice_index_or c.args.workers.kits.items 0 q in
     let wants = (c.requires.ready 0 q (some_one g here)).ready.wants in
     let step = (first_went g here q).1.passed.stretch.step in
     let w = c.pass_all-shards.result.0 in
@@ -227,7 +226,7 @@ finish-target-requires-clause-may g c =
 pub finish-target-requires-clause-workers : goal.finish-target-requires-clause-workers
 finish-target-requires-clause-workers g c =
     let here = (goal.at.finish-target-requires-clause-workers g c).In-Some in
-    ap length c.deref-2.ensures.value ∙ many_lists g here ∙ sym (c.requires.workers ∙ (let size : c.args.kits.len ≡ length c.args.kits.items = search rules in size))
+    ap length c.deref-2.ensures.value ∙ many_lists g here ∙ sym (c.requires.workers ∙ (let size : c.args.workers.kits.len ≡ length c.args.workers.kits.items = search rules in size))
 
 pub finish-target-requires-clause-known : goal.finish-target-requires-clause-known
 finish-target-requires-clause-known g c =
@@ -237,7 +236,7 @@ finish-target-requires-clause-known g c =
     let count = count_of g.R.RunName.run.listing in
     subst (λ vs. All (λ v. length v.items ≡ count) vs) (sym c.deref-2.ensures.value)
     (λ k v less.
-    let inside : k < length c.args.kits.items = omega (arith, less, many_lists g here) in
+    let inside : k < length c.args.workers.kits.items = omega (arith, less, many_lists g here) in
     ap (λ (n : List Fate). length n) (sym (get_or-map (λ (w : Vec Fate). w.items) vecs k v [] less))
     ∙ (knew g here k q q inside).passed.stretch.step.grows.size ∙ (c.requires.ready k q inside).known.size)
 
@@ -253,8 +252,8 @@ finish-target-requires-clause-lacked g c = λ is.
     let early = (goal.at.finish-target-requires-clause-lacked g c).After-deref_mut in
     let at = c.some_lacked-lacked.ensures.yes is in
     let q = first_kit g here in
-    let less : at.0 < length c.args.kits.items = omega (arith, at.1, ap (λ (zs : List (Lane g.row.S.Denot g.row.V.Denot)). length zs) (lanes_seen g before), c.pass_all-shards.ensures.lanes, many g early) in
-    lacks_between g.S.Store (Adds g.S.Store g.R.RunName.run.listing c.args.kits.items) (kind_named g.N.FolderName.kind) g.N.FolderName.opening g.N.FolderName.pairs g.N.FolderName.stores (at_first g here) (between g here) (added g here)
+    let less : at.0 < length c.args.workers.kits.items = omega (arith, at.1, ap (λ (zs : List (Lane g.row.S.Denot g.row.V.Denot)). length zs) (lanes_seen g before), c.pass_all-shards.ensures.lanes, many g early) in
+    lacks_between g.S.Store (Adds g.S.Store g.R.RunName.run.listing c.args.workers.kits.items) (kind_named g.N.FolderName.kind) g.N.FolderName.opening g.N.FolderName.pairs g.N.FolderName.stores (at_first g here) (between g here) (added g here)
     ((went g here at.0 q q less).1.memory (subst (λ (zs : List (Lane g.row.S.Denot g.row.V.Denot)). (slice_index_or zs at.0 (none_there g)).lacked ≡ true) (lanes_seen g before) (at.2 (none_there g))))
 
 -- ---- the kits in the end
@@ -291,13 +290,13 @@ pub returns-clause-bytes : goal.returns-clause-bytes
 returns-clause-bytes g c = λ old f begun.
     let here = (goal.at.returns-clause-bytes g c).In-Some in
     let q = first_kit g here in
-    let first = slice_index_or c.args.kits.items 0 q in
+    let first = slice_index_or c.args.workers.kits.items 0 q in
     (c.finish-target.ensures.assembled old.bytes (given_maps (door_seen g c.args.cache)) (sources f first.seeds.items (at_first g here) first.chain) (came g here old f begun q)).bytes
 
 pub returns-clause-memory : goal.returns-clause-memory
 returns-clause-memory g c = λ is.
     let here = (goal.at.returns-clause-memory g c).In-Some in
-    lacks_before g.S.Store (Adds g.S.Store g.R.RunName.run.listing c.args.kits.items) (at_first g here) (between g here) (added g here) (c.finish-target.ensures.memory is)
+    lacks_before g.S.Store (Adds g.S.Store g.R.RunName.run.listing c.args.workers.kits.items) (at_first g here) (between g here) (added g here) (c.finish-target.ensures.memory is)
 
 pub returns-clause-kits : goal.returns-clause-kits
 returns-clause-kits g c = λ old f begun fill.
@@ -309,7 +308,7 @@ returns-clause-kits g c = λ old f begun fill.
     let d = c.args.wants.now.plan.now in
     let x = c.args.wants.now.places.now in
     let t = task r.listing c.args.wants.now in
-    let kits = c.args.kits.items in
+    let kits = c.args.workers.kits.items in
     let worked = reverse c.kits_of-kits.result.0.items in
     let outs = c.reverse.new.self.items in
     let never = g.T.View.never_fails in
@@ -352,7 +351,7 @@ returns-clause-kits g c = λ old f begun fill.
     (c.some_lacked-lacked.ensures.no no n (none_there g)
     (omega (arith, less, ap (λ (zs : List (Lane g.row.S.Denot g.row.V.Denot)). length zs) (lanes_seen g before), c.pass_all-shards.ensures.lanes, many g early)))) in
     let lists = lists_of g here in
-    let workers : d.workers ≡ length kits = c.requires.workers ∙ (let size : c.args.kits.len ≡ length c.args.kits.items = search rules in size) in
+    let workers : d.workers ≡ length kits = c.requires.workers ∙ (let size : c.args.workers.kits.len ≡ length c.args.workers.kits.items = search rules in size) in
     let zero_is : IsTrue never → count ≡ 0 = λ sure. g.met.T.View.sure end.target sure in
     let told : (v : List (List Fate)) → map (λ (w : Vec Fate). w.items) c.deref-2.result.now ≡ v → IfOk end.answer (CountsFates (reported_at d v c.finish-target.ensures.counts.0) (count_of r.listing)) = λ v same.
     subst (λ (n : List (List Fate)). IfOk end.answer (CountsFates (reported_at d n c.finish-target.ensures.counts.0) (count_of r.listing))) same c.finish-target.ensures.counts.1 in

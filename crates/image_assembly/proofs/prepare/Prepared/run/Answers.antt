@@ -151,7 +151,7 @@ returns-clause-size g c =
 pub returns-clause-before : goal.returns-clause-before
 returns-clause-before g c =
     let r = c.run_surveyed-target.result in
-    subst (λ (x : All g). x.whole.faults_before ≤ g.T.View.faults r.target) c.self.view_is (omega (arith, c.keeps.ensures.faults, c.run_surveyed-target.ensures.faults))
+    subst (λ (x : All g). x.whole.faults_before ≤ g.T.View.faults r.target) c.self.view_is (omega (arith, c.self.invariant.0.rises, c.run_surveyed-target.ensures.faults))
 
 -- ---- several kits
 
@@ -232,7 +232,7 @@ run_workers-requires-clause-known g c κs within = (rooms_so g (goal.at.run_work
 beside : (g : Over) (c : In-Some g) (old : Held) (f : ℕ) → HasBegun c.self.inside.index.now old f c.self.inside.shards → (length c.self.inside.kits.items ≡ 1) ⊎ (f ≤ c.self.inside.shards.faults_before)
     → BegunBeside g.R.RunName.run old f c.self.inside.shards
 beside g c old f begun early =
-    begun_beside g.S.Store g.V.View g.R.RunName.run g.T.View.tells c.self.inside.tried.items (prepared g c) c.self.invariant.0 old begun.held c.keeps.ensures.tells f (elim early [
+    begun_beside g.S.Store g.V.View g.R.RunName.run g.T.View.tells c.self.inside.tried.items (prepared g c) c.self.invariant.0 old begun.held f (elim early [
       | inl alone ↦ absurd (omega (arith, many g c, alone))
       | inr before ↦ before
     ])
@@ -276,7 +276,7 @@ returns-in-Some-clause-kits g c =
     subst (λ (l : Listing). IsAssembledBy g.S.Store g.V.View (record { listing = l; plan = i.plan; places = i.places.now }) g.T.View.never_fails g.F.Look.never_fails old.bytes p (lent f i.kits.items cache) after r.answer)
     (sym c.self.invariant.0.listing)
     (c.run_workers.ensures.kits old f (beside g here old f begun early)
-    (fills_from g.S.Store g.V.View g.R.RunName.run g.T.View.tells i.tried.items (prepared g here) c.self.invariant.0 old begun.held c.keeps.ensures.tells cache (permitted g here).had)))
+    (fills_from g.S.Store g.V.View g.R.RunName.run g.T.View.tells i.tried.items (prepared g here) c.self.invariant.0 old begun.held cache (permitted g here).had)))
 
 pub returns-in-Some-clause-report : goal.returns-in-Some-clause-report
 returns-in-Some-clause-report g c =
