@@ -38,7 +38,7 @@ use Rattle.dsy_base.specs.Disk.{Disk}
 use Rattle.dsy_base.specs.Links.{DialState}
 use Rattle.dsy_base.specs.Maps.{Map, at_name}
 use Rattle.extract_command.proofs.Wrote.{wrote_on}
-use Rattle.extract_command.specs.Extract.{AreFilled, Assembled, CacheFilled, CacheGrows, Cleared, Clearing, ExtractEnds, FillsCache, HadFrom, ImageMade, Into, IsNumbered, NeverFail, NotRenamed, OutMade, Renamed, Seeds, StopsLacking, Told, Undisturbed, base_of, beside, folder_of, in_place, temporary_out}
+use Rattle.extract_command.specs.Extract.{AreFilled, Assembled, CacheFilled, CacheGrows, Cleared, Clearing, ExtractEnds, FillsCache, HadFrom, ImageMade, Into, IsCounted, NeverFail, NotRenamed, OutMade, Renamed, Seeds, StopsLacking, Told, Undisturbed, base_of, beside, folder_of, in_place, temporary_out}
 use Rattle.store_chain.specs.Refusals.{Lacks}
 use Rattle.store_chain.specs.declared.refused.Refused.{Refused}
 use Rattle.store_chain.specs.declared.refused.Refused.TheVariants as refused
@@ -209,14 +209,14 @@ module _ (x : Contents) (w v u : World) (at : IsAt x w u) (quiet : IsQuiet w v) 
     gone_as (ends.Damaged k id s y) t a names is = is
     gone_as other t a names is = absurd names
 
-    cleared_so : (c : Disk) (t : List ℕ) → Climbs w.disk c → c.files ≡ Some (at_name x.files tmp (Some t)) → (o : Outcome) → (o ≡ ends.Memory → ⊥) → IsNumbered tmp u.disk (Err o) c → Cleared tmp c v.disk → (a : Map (List ℕ)) → v.disk.files ≡ Some a → a ≡ at_name x.files tmp None
+    cleared_so : (c : Disk) (t : List ℕ) → Climbs w.disk c → c.files ≡ Some (at_name x.files tmp (Some t)) → (o : Outcome) → (o ≡ ends.Memory → ⊥) → IsCounted tmp u.disk (Err o) c → Cleared tmp c v.disk → (a : Map (List ℕ)) → v.disk.files ≡ Some a → a ≡ at_name x.files tmp None
     cleared_so c t from is o other numbered cleared a end = elim cleared.0 [
       | inl gone ↦ same_Some _ _ (sym end ∙ gone ∙ ap (option_map (λ m. at_name m tmp None)) is) ∙ at_name_twice x.files tmp (Some t) None
       | inr (same, inl none) ↦ absurd (none-some _ (sym (subst (λ f. IfSome f (λ m. m tmp ≡ None)) is none) ∙ at_same x.files tmp (Some t)))
       | inr (same, inr (inl rose)) ↦ absurd ((none_rose w.disk c v.disk v.disk quiet.disk from (self_climbs v.disk)).files tmp rose)
       | inr (same, inr (inr unknown)) ↦ absurd (unnumbered numbered unknown)
     ] where
-      unnumbered : IsNumbered tmp u.disk (Err o) c → c.file_counts tmp ≡ None → ⊥
+      unnumbered : IsCounted tmp u.disk (Err o) c → c.file_counts tmp ≡ None → ⊥
       unnumbered (inl known) unknown = let no : true ≡ false = sym known ∙ ap is_some unknown in absurd (cc)
       unnumbered (inr memory) unknown = other (ap outcome_of memory.0)
 

@@ -10,7 +10,7 @@ use Rattle.dsy_base.specs.Counts.{Rose}
 use Rattle.dsy_base.specs.Maps.{Map}
 use Rattle.dsy_base.specs.declared.fault.IoFault.{IoFault}
 use Rattle.dsy_base.specs.declared.fault.IoFault.TheVariants as io
-use Rattle.extract_command.specs.Extract.{IsNumbered, answer_of_taking}
+use Rattle.extract_command.specs.Extract.{IsCounted, answer_of_taking}
 
 pub wrote_then : (d b e : Disk) → Writes d b → Writes b e → Writes d e
 wrote_then d b e u v = record {
@@ -43,6 +43,6 @@ rose_known None old (inl more) = absurd (omega (arith, more))
 rose_known None old (inr full) = absurd (omega (arith, full))
 rose_known (Some n) old rose = refl
 
-pub untaken_numbered : (q : List ℕ) (d e : Disk) (old : ℕ) (fault : IoFault) → (fault ≡ io.Failed → Rose old (count_at e.file_counts q)) → e.files ≡ d.files → IsNumbered q d (answer_of_taking fault) e
+pub untaken_numbered : (q : List ℕ) (d e : Disk) (old : ℕ) (fault : IoFault) → (fault ≡ io.Failed → Rose old (count_at e.file_counts q)) → e.files ≡ d.files → IsCounted q d (answer_of_taking fault) e
 untaken_numbered q d e old io.Failed rose same = inl (rose_known (e.file_counts q) old (rose refl))
 untaken_numbered q d e old io.Memory rose same = inr (refl, same)

@@ -1,4 +1,4 @@
--- `extract [-k] -s STORE.. -c FOLDER --seed INDEX.. INDEX OUT`. A name is its bytes.
+-- `extract [-k] -s STORE.. -e N -c FOLDER --seed INDEX.. INDEX OUT`. A name is its bytes.
 use Rattle.std.specs.Prelude.{◌≡◌, ◌⊎◌, ◌++◌, codes, Bool, true, false, if◌then◌else◌, is_some, ℕ}
 use Rattle.std.specs.Prelude.{◌+◌, ◌<◌, ◌≤◌}
 use Rattle.std.specs.Prelude.{length, List, [], ◌∷◌, map, Option, Some, None, IfSome, IsSome, IsSomeAnd, IsTrue}
@@ -344,8 +344,8 @@ pub record GetsWants (sure : NeverFail) (w v : Storage) (stores : Stores) (cache
 -- ---- making the image
 
 -- the file's name has a number, unless there was no memory to take it
-abbrev pub IsNumbered : List ℕ → Disk → Result Unit Outcome → Disk → Type 0
-IsNumbered name d r e = IsSome (e.file_counts name) ⊎ ((r ≡ Err ends.Memory) × (e.files ≡ d.files))
+abbrev pub IsCounted : List ℕ → Disk → Result Unit Outcome → Disk → Type 0
+IsCounted name d r e = IsSome (e.file_counts name) ⊎ ((r ≡ Err ends.Memory) × (e.files ≡ d.files))
 
 -- files tell afterwards where they told before. The file, the images of seeds, the cache's folder and those of stores
 -- alone were used
@@ -353,7 +353,7 @@ abbrev pub ImageMade : NeverFail → Stores → Option (List ℕ) → Into → L
 ImageMade sure stores cache out l x w r v = Assembled w v stores cache out l x r
     × FillsCache stores cache l w.disk v.disk
     × (is_some v.disk.files ≡ is_some w.disk.files) × DialsStores (stores_of stores.groups) w.dial v.dial
-    × IsNumbered out.name w.disk r v.disk
+    × IsCounted out.name w.disk r v.disk
     × GetsWants sure w v stores cache out l x
     × Uses (out.name ∷ x.images) (folders_reached cache stores.groups) w.disk v.disk
 

@@ -11,7 +11,7 @@ ghost use Rattle.command_steps.specs.Uses.{Uses};
 ghost use Rattle.command_words.specs.Locations.{NamesIndex};
 ghost use Rattle.command_worlds.specs.Worlds.{world};
 ghost use Rattle.extract_command.specs.Extract.{Assembled, ClearedAfter, ExtractEnds, FillsCache, IsNoFile};
-ghost use Rattle.extract_command.specs.Extract.{IsNumbered, OutMade, Renamed, answer_of_assembly, answer_of_taking};
+ghost use Rattle.extract_command.specs.Extract.{IsCounted, OutMade, Renamed, answer_of_assembly, answer_of_taking};
 ghost use Rattle.extract_command.specs.Extract.{GetsWants, folders_reached, never_fail, temporary_out};
 ghost use Rattle.extract_command.specs.Held.{JustReached, disk_with, groups_of};
 ghost use Rattle.dsy_base.specs.Disk.{Output};
@@ -170,7 +170,7 @@ where
     D::Link: Send,
     requires plan { (d : Deal) × IsPlan planned.now.index 1 d
         × PlacesKnown planned.now.index d planned.now.places (length planned.now.seeds) }
-    requires groups { AreGroups planned.now.stores.groups planned.now.stores.retries }
+    requires size { AreGroups planned.now.stores.groups planned.now.stores.retries }
     requires located { groups_of F.Look.Look held ≡ planned.now.stores.groups }
     requires workers { (1 ≤ planned.now.workers) × (planned.now.workers ≤ 32) }
     requires held { JustReached F.Look.Look F.Folder.Look F.View.View D.state (F.disk files.old)
@@ -188,7 +188,7 @@ where
     ensures used { Uses (target.now ∷ map image_name planned.now.seeds)
         (folders_reached held.cache planned.now.stores.groups) (disk_with F.Folder.Look held (F.disk files.old))
         (F.disk files.new) }
-    ensures numbered { IsNumbered target.now (F.disk files.old) result (F.disk files.new) }
+    ensures numbered { IsCounted target.now (F.disk files.old) result (F.disk files.new) }
     ensures asks { (d : Deal) (ls : List Listing) → IsPlan planned.now.index 1 d →
         IsSeedIndex planned.now.index d ls planned.now.places →
         GetsWants (never_fail F.Target.never_fails F.Folder.never_fails)
@@ -290,7 +290,7 @@ where
     D::Link: Send,
     requires plan { (d : Deal) × IsPlan planned.now.index 1 d
         × PlacesKnown planned.now.index d planned.now.places (length planned.now.seeds) }
-    requires groups { AreGroups planned.now.stores.groups planned.now.stores.retries }
+    requires size { AreGroups planned.now.stores.groups planned.now.stores.retries }
     requires located { groups_of F.Look.Look held ≡ planned.now.stores.groups }
     requires workers { (1 ≤ planned.now.workers) × (planned.now.workers ≤ 32) }
     requires held { JustReached F.Look.Look F.Folder.Look F.View.View D.state (F.disk files.old)
@@ -312,7 +312,8 @@ where
 
 /// Makes OUT the image that INDEX lists: in its place, where what it holds already is kept where it is right; or by way
 /// of a temporary file, which takes OUT's name when it is the image. Chunks come from the images of the seeds, else
-/// from the cache, and else from the stores, which are asked in order. What a store gave is added to the cache. Each
+/// from the cache, and else from the stores, whose groups are asked in order. A call on a store that fails is made up
+/// to `retries` times more, and then on the next store of its group. What a store gave is added to the cache. Each
 /// worker has stores and seeds of its own; where they can't be opened again, or there is no memory for as many workers,
 /// there are fewer.
 pub fn extract<R: Threads + Wait + Sync, F: Files, D: Dial + Send>(

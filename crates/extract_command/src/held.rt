@@ -54,7 +54,7 @@ pub fn reach<F: Files, D: Dial>(
     cache: Option<Name>,
     workers: usize,
 ) -> Result<Held<F::Look, F::Folder, F::View, D>, Outcome>
-    requires groups { AreGroups stores.now.groups stores.now.retries }
+    requires size { AreGroups stores.now.groups stores.now.retries }
     ensures ok { IfOk result (λ h. AllReached stores.now.groups cache (F.disk files.old) (Ok tt)
         (disk_with F.Folder.Look h (F.disk files.new))) }
     ensures located { IfOk result (λ h. groups_of F.Look.Look h ≡ stores.now.groups) }

@@ -36,7 +36,8 @@ fn open_kit<F: Files, D: Dial>(
         stores.now (map image_name seeds.now)) }
     ensures kind { IfSome result (λ k. k.chain.kind ≡ kind) }
     ensures kept { Reads (F.disk files.old) (F.disk files.new) }
-    ensures used { Uses (map image_name seeds.now) (folders_among (stores_of stores.now.groups)) (F.disk files.old) (F.disk files.new) }
+    ensures used { Uses (map image_name seeds.now) (folders_among (stores_of stores.now.groups)) (F.disk files.old)
+        (F.disk files.new) }
 {
     let groups = stores.groups.as_slice();
     let Ok(stores) = open_groups(alloc, files, dial, groups, stores.retries) else {
@@ -71,7 +72,8 @@ pub fn open_kits<F: Files, D: Dial>(
     ensures few { vec_len kits.new + 1 ≤ workers }
     ensures room { vec_len kits.new + 1 ≤ vec_capacity kits.new }
     ensures kept { Reads (F.disk files.old) (F.disk files.new) }
-    ensures used { Uses (map image_name seeds.now) (folders_among (stores_of stores.now.groups)) (F.disk files.old) (F.disk files.new) }
+    ensures used { Uses (map image_name seeds.now) (folders_among (stores_of stores.now.groups)) (F.disk files.old)
+        (F.disk files.new) }
 {
     let alloc = *kits.allocator();
     for _opened in 1..workers {

@@ -93,7 +93,7 @@ let_go-requires g c =
 
 pub open_kits-requires : goal.open_kits-requires
 open_kits-requires g c = record {
-  size = c.requires.groups;
+  size = c.requires.size;
   some = c.workers_with_room-workers.ensures.size.0;
   room = (c.args.held.kits.ok.0 ∙ ap length c.requires.held.room.0, omega (arith, c.workers_with_room-workers.ensures.size.1, c.requires.held.room.1));
 }
@@ -123,7 +123,7 @@ let_go-requires-in-Err g c =
     }
 
 pub into_kits-kits-requires-clause-size : goal.into_kits-kits-requires-clause-size
-into_kits-kits-requires-clause-size g c = groups_many (locations_in g.F.Look.Look.place) c.args.planned.now.stores.groups c.args.planned.now.stores.retries c.args.held.stores.items c.requires.located c.requires.groups
+into_kits-kits-requires-clause-size g c = groups_many (locations_in g.F.Look.Look.place) c.args.planned.now.stores.groups c.args.planned.now.stores.retries c.args.held.stores.items c.requires.located c.requires.size
 
 pub into_kits-kits-requires-clause-room : goal.into_kits-kits-requires-clause-room
 into_kits-kits-requires-clause-room g c = omega (arith, c.open_kits.ensures.room)
@@ -493,7 +493,7 @@ pub numbered-answer-requires : goal.numbered-answer-requires
 numbered-answer-requires g c =
     let here = (goal.at.numbered-answer-requires g c).After-of_kits-held in
     record {
-      few = rw c.as_slice-groups.ensures c.requires.groups.few;
+      few = rw c.as_slice-groups.ensures c.requires.size.few;
       sizes = rw (c.as_slice-groups.ensures, c.as_slice-opened.ensures.value) (sizes_stand g.F.Look.Look.place here.of_kits-held.result.stores.items here.args.planned.now.stores.groups (still g here).located);
     }
 

@@ -34,8 +34,8 @@ assemble_into-requires-clause-plan g c κs within =
           (known_places_of (g.F.Files.disk c.load_index.new.files) c.args.words.seeds c.in_ok-indexes.indexes.items c.in_ok-listed.listed p.index plan.0 p.places listed c.in-Ok.ensures.index plan.3),
     )
 
-pub assemble_into-requires-clause-groups : goal.assemble_into-requires-clause-groups
-assemble_into-requires-clause-groups g c κs within = rw c.in-Ok.ensures.stores c.requires.stores
+pub assemble_into-requires-clause-size : goal.assemble_into-requires-clause-size
+assemble_into-requires-clause-size g c κs within = rw c.in-Ok.ensures.stores c.requires.stores
 
 pub assemble_into-requires-clause-located : goal.assemble_into-requires-clause-located
 assemble_into-requires-clause-located g c κs within = c.in-Ok-reach.ensures.located
@@ -66,11 +66,11 @@ assemble_beside-requires-clause-plan g c κs within =
           (known_places_of (g.F.Files.disk c.load_index.new.files) c.args.words.seeds c.in_ok-indexes.indexes.items c.in_ok-listed.listed p.index plan.0 p.places listed c.in-Ok.ensures.index plan.3),
     )
 
-pub assemble_beside-requires-clause-groups : goal.assemble_beside-requires-clause-groups
-assemble_beside-requires-clause-groups g c κs within = rw c.in-Ok.ensures.stores c.requires.stores
+pub assemble_beside-requires-clause-size : goal.assemble_beside-requires-clause-size
+assemble_beside-requires-clause-size g c κs within = rw c.in-Ok.ensures.stores c.requires.stores
 
 pub reach-requires : goal.reach-requires
-reach-requires g c = record { groups = rw c.in-Ok.ensures.stores c.requires.stores }
+reach-requires g c = record { size = rw c.in-Ok.ensures.stores c.requires.stores }
 
 -- the stores of the words
 abbrev stores_by : List (List Location) → ℕ → Stores

@@ -16,7 +16,7 @@ use Rattle.extract_command.proofs.held.reach.Goals as goal
 use Rattle.extract_command.specs.Kits.{CanGiveKit}
 
 pub open_groups-requires : goal.open_groups-requires
-open_groups-requires g c = record { each = rw c.as_slice-groups.ensures c.requires.groups.each }
+open_groups-requires g c = record { each = rw c.as_slice-groups.ensures c.requires.size.each }
 
 pub returns-in-Err-take_cache-clause-err : goal.returns-in-Err-take_cache-clause-err
 returns-in-Err-take_cache-clause-err g c =
