@@ -35,6 +35,10 @@ use Rattle.command_words.specs.declared.command.Command.TheVariants as commands
 use Rattle.command_words.specs.declared.command.Location.{Location}
 use Rattle.command_words.specs.declared.command.Location.TheVariants as locations
 use Rattle.desync_cli.proofs.Fair.{begun, if_any, if_some}
+use Rattle.command_groups.specs.Groups.{stores_of}
+use Rattle.desync_cli.proofs.Alone.{alone_lacked}
+use Rattle.desync_cli.proofs.Grouped.{AreAlone}
+use Rattle.extract_command.specs.declared.stores.Stores.{Stores}
 use Rattle.desync_cli.specs.AtHand.{EndsAtHand, StoreGivesEntry, IsAtHand, ListsOneSize, NeedsNoServer, into, near}
 use Rattle.command_line.specs.CommandLine.{command_line}
 use Rattle.command_words.specs.declared.usage.WordsFault.{WordsFault}
@@ -68,7 +72,7 @@ read_climbs d e r = record { files = r.counts; folders = r.folder_counts }
 pub wrote_climbs : (d e : Disk) → Writes d e → Climbs d e
 wrote_climbs d e r = record { files = r.counts; folders = r.folder_counts }
 
-pub filled_climbs : (stores : List Location) (cache : Option (List ℕ)) (l : Listing) (d e : Disk) → FillsCache stores cache l d e → Climbs d e
+pub filled_climbs : (stores : Stores) (cache : Option (List ℕ)) (l : Listing) (d e : Disk) → FillsCache stores cache l d e → Climbs d e
 filled_climbs stores cache l d e r = record { files = r.counts; folders = r.folder_counts }
 
 -- nothing failed between
@@ -188,7 +192,7 @@ from_told d e cache P b n is y tells h = go d.files d.folders e.files is y tells
       (a, sym at, h.0, subst (λ (x : Map (List ℕ)). P x a n h.0) one (subst (λ (x : Map (Map (List ℕ))). P c a x h.0) two h.2))
 
 module _ (w v : Storage) (none : NoneRose w.disk v.disk) (b : Map (List ℕ)) (n : Map (Map (List ℕ))) (files : w.disk.files ≡ Some b) (folders : w.disk.folders ≡ Some n) (tells : is_some v.disk.files ≡ is_some w.disk.files)
-    (stores : List Location) (cache : Option (List ℕ)) (out : Into) (l : Listing) (x : Seeds) where
+    (stores : Stores) (alone : AreAlone stores.groups) (cache : Option (List ℕ)) (out : Into) (l : Listing) (x : Seeds) where
   module _ (k : ℕ) (listed : k < count_of l) (id : ChunkId) (id_is : id.0 ≡ id_of l k) where
     abbrev Gives : Location → Type 0
     Gives = StoreGivesEntry n l k
@@ -220,15 +224,15 @@ module _ (w v : Storage) (none : NoneRose w.disk v.disk) (b : Map (List ℕ)) (n
     lacks_not s lacks gives = lacking_not s (entry_lacks l k id (said_at w v s) id_is lacks) gives
 
     -- no store that gives it was passed
-    stores_not : (r : Refused) → r ≢ refused.Memory → HaveLacked (chunk_of (kind_of l) id (size_of l k)) w v stores r → Any Gives stores → ⊥
-    stores_not refused.Missing none said any = none_all Gives stores (All-weaker (λ s. (said_at w v s).denied id.0) (λ s. Gives s → ⊥) denied_not stores said) any
-    stores_not (refused.Damaged s y) none said any =
+    stores_not : (names : List Location) (r : Refused) → r ≢ refused.Memory → HaveLacked (chunk_of (kind_of l) id (size_of l k)) w v names r → Any Gives names → ⊥
+    stores_not names refused.Missing none said any = none_all Gives names (All-weaker (λ s. (said_at w v s).denied id.0) (λ s. Gives s → ⊥) denied_not names said) any
+    stores_not names (refused.Damaged s y) none said any =
         none_first Gives (λ s. (said_at w v s).denied id.0) (λ s. HasShown (chunk_of (kind_of l) id (size_of l k)) y (said_at w v s)) (λ s. Lacks (chunk_of (kind_of l) id (size_of l k)) (said_at w v s))
-        denied_not (λ s h. lacks_not s (inr (y, h))) lacks_not s stores said any
-    stores_not (refused.StoreFault s) none said any =
+        denied_not (λ s h. lacks_not s (inr (y, h))) lacks_not s names said any
+    stores_not names (refused.StoreFault s) none said any =
         none_first Gives (λ s. Lacks (chunk_of (kind_of l) id (size_of l k)) (said_at w v s)) (StoreRose w v) (λ s. Lacks (chunk_of (kind_of l) id (size_of l k)) (said_at w v s) ⊎ StoreRose w v s)
-        lacks_not rose_not (λ s h gives. elim h [ inl lacks ↦ lacks_not s lacks gives | inr rose ↦ rose_not s rose gives ]) s stores said any
-    stores_not refused.Memory none said any = absurd (none refl)
+        lacks_not rose_not (λ s h gives. elim h [ inl lacks ↦ lacks_not s lacks gives | inr rose ↦ rose_not s rose gives ]) s names said any
+    stores_not names refused.Memory none said any = absurd (none refl)
 
     -- nor the cache, which gives it still
     cached_still : (c : List ℕ) → CacheFilled stores (Some c) l w.disk v.disk → CacheLacksEntry w.disk v.disk (Some c) l k → ListsOneSize l → Gives (locations.Folder c) → ⊥
@@ -258,20 +262,22 @@ module _ (w v : Storage) (none : NoneRose w.disk v.disk) (b : Map (List ℕ)) (n
           let rose : Chunk grows.2 → FolderRose w.disk v.disk c = subst (λ o. IfSome o (λ g. Chunk g → FolderRose w.disk v.disk c)) now lacks in
           none.folders c (rose (grown m grows.0 grows.2 grows.4 has))
 
-    folders_not : (cache : Option (List ℕ)) → CacheFilled stores cache l w.disk v.disk → CacheLacksEntry w.disk v.disk cache l k → (IsSome cache → ListsOneSize l) → (Any Gives stores → ⊥) → Any Gives (near cache stores) → ⊥
+    folders_not : (cache : Option (List ℕ)) → CacheFilled stores cache l w.disk v.disk → CacheLacksEntry w.disk v.disk cache l k → (IsSome cache → ListsOneSize l) → (Any Gives (stores_of stores.groups) → ⊥) → Any Gives (near cache (stores_of stores.groups)) → ⊥
     folders_not None filled lacks one rest any = rest any
-    folders_not (Some c) filled lacks one rest any = elim (any_cons Gives (locations.Folder c) stores any) [
+    folders_not (Some c) filled lacks one rest any = elim (any_cons Gives (locations.Folder c) (stores_of stores.groups) any) [
       | inl here ↦ cached_still c filled lacks (one refl) here
       | inr later ↦ rest later
     ]
 
-  module _ (filled : CacheFilled stores cache l w.disk v.disk) (one : IsSome cache → ListsOneSize l) (at_hand : (i : ℕ) → i < count_of l → IsAtHand b n out l x (near cache stores) i) where
+  module _ (filled : CacheFilled stores cache l w.disk v.disk) (one : IsSome cache → ListsOneSize l) (at_hand : (i : ℕ) → i < count_of l → IsAtHand b n out l x (near cache (stores_of stores.groups)) i) where
     -- no entry is lacking
     none_lacking : (k : ℕ) (id : ChunkId) (r : Refused) → r ≢ refused.Memory → IsLacking w v b n cache out l x stores k id r → ⊥
     none_lacking k id r told h = elim (at_hand k h.listed) [
       | inl right ↦ none.files out.name (h.copies right)
       | inr (inl seed) ↦ none.files seed.1.image (h.seeds seed.0 seed.1)
-      | inr (inr folder) ↦ folders_not k h.listed id h.id_is cache filled h.uncached one (stores_not k h.listed id h.id_is r told h.said) folder
+      | inr (inr folder) ↦
+          let said = alone_lacked stores.retries (chunk_of (kind_of l) id (size_of l k)) w v stores.groups alone r told h.said in
+          folders_not k h.listed id h.id_is cache filled h.uncached one (stores_not k h.listed id h.id_is (stores_of stores.groups) said.0 said.1 said.2) folder
     ]
 
     assembled_at_hand : (o : Outcome) → Assembled w v stores cache out l x (Err o) → o ≡ ends.Memory
@@ -289,11 +295,11 @@ module _ (w v : Storage) (none : NoneRose w.disk v.disk) (b : Map (List ℕ)) (n
 pub self_climbs : (d : Disk) → Climbs d d
 self_climbs d = record { files = λ q. omega arith; folders = λ q. omega arith }
 
-module _ (sure : NeverFail) (stores : List Location) (cache : Option (List ℕ)) (out : List ℕ) (l : Listing) (x : Seeds) (w : Disk) (v : World) (quiet : DiskQuiet w v.disk) (b : Map (List ℕ)) (n : Map (Map (List ℕ))) (one : IsSome cache → ListsOneSize l)
+module _ (sure : NeverFail) (stores : Stores) (alone : AreAlone stores.groups) (cache : Option (List ℕ)) (out : List ℕ) (l : Listing) (x : Seeds) (w : Disk) (v : World) (quiet : DiskQuiet w v.disk) (b : Map (List ℕ)) (n : Map (Map (List ℕ))) (one : IsSome cache → ListsOneSize l)
     (u : World) (files : u.disk.files ≡ Some b) (folders : u.disk.folders ≡ Some n) (so_far : Climbs w u.disk) where
-  image_at_hand : (i : Into) (c : Disk) → Climbs c v.disk → ((k : ℕ) → k < count_of l → IsAtHand b n i l x (near cache stores) k) → (o : Outcome) → ImageMade sure stores cache i l x (storage u.disk u.dial) (Err o) (storage c v.dial) → o ≡ ends.Memory
+  image_at_hand : (i : Into) (c : Disk) → Climbs c v.disk → ((k : ℕ) → k < count_of l → IsAtHand b n i l x (near cache (stores_of stores.groups)) k) → (o : Outcome) → ImageMade sure stores cache i l x (storage u.disk u.dial) (Err o) (storage c v.dial) → o ≡ ends.Memory
   image_at_hand i c later hand o h =
-      assembled_at_hand (storage u.disk u.dial) (storage c v.dial) (none_rose w u.disk c v.disk quiet so_far later) b n files folders h.2 stores cache i l x h.1.folders one hand o h.0
+      assembled_at_hand (storage u.disk u.dial) (storage c v.dial) (none_rose w u.disk c v.disk quiet so_far later) b n files folders h.2 stores alone cache i l x h.1.folders one hand o h.0
 
   renamed_at_hand : (m c : Disk) (k : DialState) → Climbs m v.disk → Climbs c v.disk → ImageMade sure stores cache (beside out) l x (storage u.disk u.dial) (Ok tt) (storage m k) → (o : Outcome) → Renamed (temporary_out out) out m (Err o) c → o ≡ ends.Memory
   renamed_at_hand m c k mid later made o h = go o h.0 where
@@ -315,7 +321,7 @@ module _ (sure : NeverFail) (stores : List Location) (cache : Option (List ℕ))
     go ends.Memory r = refl
     go other r = absurd r
 
-  out_at_hand : (place : Bool) → ((k : ℕ) → k < count_of l → IsAtHand b n (into place out) l x (near cache stores) k) → (o : Outcome) → OutMade sure place stores cache out l x u (Err o) v → o ≡ ends.Memory
+  out_at_hand : (place : Bool) → ((k : ℕ) → k < count_of l → IsAtHand b n (into place out) l x (near cache (stores_of stores.groups)) k) → (o : Outcome) → OutMade sure place stores cache out l x u (Err o) v → o ≡ ends.Memory
   out_at_hand true hand o h = image_at_hand (in_place out) v.disk (self_climbs v.disk) hand o h.0
   out_at_hand false hand o (inl h) = image_at_hand (beside out) h.0.0 (wrote_climbs h.0.0 v.disk (wrote_on h.0.0 v.disk (temporary_out out) h.0.2.1)) hand o h.0.1
   out_at_hand false hand o (inr h) =
@@ -326,8 +332,8 @@ module _ (sure : NeverFail) (stores : List Location) (cache : Option (List ℕ))
 
 -- ---- the command
 
-module _ (sure : NeverFail) (stores : List Location) (cache : Option (List ℕ)) (seeds : List (List ℕ)) (place : Bool) (index out : List ℕ) (w v : World) (quiet : DiskQuiet w.disk v.disk) (b : Map (List ℕ)) (n : Map (Map (List ℕ))) (files : w.disk.files ≡ Some b) (folders : w.disk.folders ≡ Some n)
-    (no : NeedsNoServer b n stores cache seeds (into place out) index) where
+module _ (sure : NeverFail) (stores : Stores) (cache : Option (List ℕ)) (seeds : List (List ℕ)) (place : Bool) (index out : List ℕ) (w v : World) (quiet : DiskQuiet w.disk v.disk) (b : Map (List ℕ)) (n : Map (Map (List ℕ))) (files : w.disk.files ≡ Some b) (folders : w.disk.folders ≡ Some n)
+    (no : NeedsNoServer b n stores.groups cache seeds (into place out) index) where
   abbrev seeds_of : List Listing → Seeds
   seeds_of ls = record { images = map image_name seeds; listings = ls }
 
@@ -348,7 +354,7 @@ module _ (sure : NeverFail) (stores : List Location) (cache : Option (List ℕ))
 
   -- each entry is at hand of what the steps have read
   abbrev AllNear : Listing → List Listing → Type 0
-  AllNear l ls = (i : ℕ) → i < count_of l → IsAtHand b n (into place out) l (seeds_of ls) (near cache stores) i
+  AllNear l ls = (i : ℕ) → i < count_of l → IsAtHand b n (into place out) l (seeds_of ls) (near cache (stores_of stores.groups)) i
 
   pub extracted_at_hand : (o : Outcome) → ExtractEnds sure stores cache seeds place index out w (Err o) v → o ≡ ends.Memory
   extracted_at_hand o (inl h) = unread w.disk v.disk b files (still w.disk (self_climbs w.disk)) index no.listing o no.listed (got_file index (storage_of w) (Err o) (storage_of v) no.file h.0).0.0
@@ -368,7 +374,7 @@ module _ (sure : NeverFail) (stores : List Location) (cache : Option (List ℕ))
     climbs1 : Climbs w.disk h.disk
     climbs1 = read_climbs w.disk h.disk read
 
-    seeds_then : (OnDisk (IndexesRead seeds) >>= (λ ls. OnDisk (SourcesOpened stores) >>= (λ u. OnDisk (CacheOpened stores cache) >>= (λ u. OutMade sure place stores cache out h.gave (seeds_of ls))))) (world h.disk h.dial h.out) (Err o) v → o ≡ ends.Memory
+    seeds_then : (OnDisk (IndexesRead seeds) >>= (λ ls. OnDisk (SourcesOpened (stores_of stores.groups)) >>= (λ u. OnDisk (CacheOpened (stores_of stores.groups) cache) >>= (λ u. OutMade sure place stores cache out h.gave (seeds_of ls))))) (world h.disk h.dial h.out) (Err o) v → o ≡ ends.Memory
     seeds_then (inl k) = seeds_unread h.disk v.disk b files1 (still h.disk climbs1) 0 seeds no.listings o no.seeds_listed no.few k.0.0
     seeds_then (inr k) = stores_then k.then where
       files2 : k.disk.files ≡ Some b
@@ -386,8 +392,8 @@ module _ (sure : NeverFail) (stores : List Location) (cache : Option (List ℕ))
       hand : AllNear h.gave k.gave
       hand = subst (λ l. AllNear l k.gave) (sym is_listing) (subst (λ ls. AllNear no.listing ls) (sym are_listings) no.at_hand)
 
-      stores_then : (OnDisk (SourcesOpened stores) >>= (λ u. OnDisk (CacheOpened stores cache) >>= (λ u. OutMade sure place stores cache out h.gave (seeds_of k.gave)))) (world k.disk k.dial k.out) (Err o) v → o ≡ ends.Memory
-      stores_then (inl m) = elim m.0.0 [ inl first ↦ unreached k.disk v.disk n folders2 (still k.disk climbs2) stores o no.there first | inr memory ↦ memory ]
+      stores_then : (OnDisk (SourcesOpened (stores_of stores.groups)) >>= (λ u. OnDisk (CacheOpened (stores_of stores.groups) cache) >>= (λ u. OutMade sure place stores cache out h.gave (seeds_of k.gave)))) (world k.disk k.dial k.out) (Err o) v → o ≡ ends.Memory
+      stores_then (inl m) = elim m.0.0 [ inl first ↦ unreached k.disk v.disk n folders2 (still k.disk climbs2) (stores_of stores.groups) o no.there first | inr memory ↦ memory ]
       stores_then (inr m) = cache_then m.then where
         folders3 : m.disk.folders ≡ Some n
         folders3 = m.did.0.1.folders ∙ folders2
@@ -395,26 +401,26 @@ module _ (sure : NeverFail) (stores : List Location) (cache : Option (List ℕ))
         climbs3 : Climbs w.disk m.disk
         climbs3 = climbs_on w.disk k.disk m.disk climbs2 (read_climbs k.disk m.disk m.did.0.1)
 
-        cache_then : (OnDisk (CacheOpened stores cache) >>= (λ u. OutMade sure place stores cache out h.gave (seeds_of k.gave))) (world m.disk m.dial m.out) (Err o) v → o ≡ ends.Memory
-        cache_then (inl g) = cache_unreached m.disk v.disk n folders3 (still m.disk climbs3) stores cache o no.cache_there g.0
+        cache_then : (OnDisk (CacheOpened (stores_of stores.groups) cache) >>= (λ u. OutMade sure place stores cache out h.gave (seeds_of k.gave))) (world m.disk m.dial m.out) (Err o) v → o ≡ ends.Memory
+        cache_then (inl g) = cache_unreached m.disk v.disk n folders3 (still m.disk climbs3) (stores_of stores.groups) cache o no.cache_there g.0
         cache_then (inr g) =
-            let reached = cache_reads stores cache m.disk g.disk (Ok tt) g.did.0 in
-            out_at_hand sure stores cache out h.gave (seeds_of k.gave) w.disk v quiet b n (λ c. subst ListsOneSize (sym is_listing) (no.one_size c)) (world g.disk g.dial g.out) (reached.files ∙ m.did.0.1.files ∙ files2) (reached.folders ∙ folders3)
+            let reached = cache_reads (stores_of stores.groups) cache m.disk g.disk (Ok tt) g.did.0 in
+            out_at_hand sure stores no.alone cache out h.gave (seeds_of k.gave) w.disk v quiet b n (λ c. subst ListsOneSize (sym is_listing) (no.one_size c)) (world g.disk g.dial g.out) (reached.files ∙ m.did.0.1.files ∙ files2) (reached.folders ∙ folders3)
             (climbs_on w.disk m.disk g.disk climbs3 (read_climbs m.disk g.disk reached)) place hand o g.then
 
 -- ---- what the top call says
 
 -- where it is done, or there was no memory
 fine : (c : Command) (d : Disk) (o : Outcome) → (o ≡ ends.Done) ⊎ (o ≡ ends.Memory) → EndsAtHand c d o
-fine (commands.Extract stores seeds cache place workers index target) d o is = if_any d.files _ (λ b. if_any d.folders _ (λ n. λ no. is))
+fine (commands.Extract stores retries seeds cache place workers index target) d o is = if_any d.files _ (λ b. if_any d.folders _ (λ n. λ no. is))
 fine other d o is = tt
 
 refused_at_hand : (sure : Bool) (c : Command) (k : Heard) (w v : World) (o : Outcome) → DiskQuiet w.disk v.disk → CommandEnds sure k c w (Err o) v → EndsAtHand c w.disk o
-refused_at_hand sure (commands.Extract stores seeds cache place workers index target) k w v o quiet h = go w.disk.files w.disk.folders refl refl where
+refused_at_hand sure (commands.Extract stores retries seeds cache place workers index target) k w v o quiet h = go w.disk.files w.disk.folders refl refl where
   go : (f : Option (Map (List ℕ))) (g : Option (Map (Map (List ℕ)))) → w.disk.files ≡ f → w.disk.folders ≡ g → IfSome f (λ b. IfSome g (λ n. NeedsNoServer b n stores cache seeds (into place target) index → (o ≡ ends.Done) ⊎ (o ≡ ends.Memory)))
   go None g is y = tt
   go (Some b) None is y = tt
-  go (Some b) (Some n) is y = λ no. inr (extracted_at_hand (never_fail sure k.never_fails) stores cache seeds place index target w v quiet b n is y no o h)
+  go (Some b) (Some n) is y = λ no. inr (extracted_at_hand (never_fail sure k.never_fails) (record { groups = stores; retries = retries }) cache seeds place index target w v quiet b n is y no o h)
 refused_at_hand sure other k w v o quiet h = tt
 
 words_refused : (words : List (List ℕ)) (d : Disk) (o : Outcome) → NoCommand words o → IfSome (command_of words) (λ c. EndsAtHand c d o)

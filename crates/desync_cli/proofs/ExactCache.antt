@@ -23,6 +23,8 @@ use Rattle.command_words.specs.declared.command.Location.{Location}
 use Rattle.command_worlds.specs.Steps.{◌>>=◌, outcome_of}
 use Rattle.command_worlds.specs.Worlds.{DiskQuiet, OnDisk, World}
 use Rattle.desync_cli.proofs.Cached.{any_first, any_later, over_all}
+use Rattle.command_groups.specs.Groups.{group_files, stores_of}
+use Rattle.desync_cli.proofs.Grouped.{AreAlone, alone_files}
 use Rattle.desync_cli.proofs.Readings.{EndsSo, IsAt, IsQuiet, at_first, both_files, cache_so, file_unrisen, index_there, index_unread, some_not, stores_so}
 use Rattle.desync_cli.specs.Contents.{Contents, Ending, HasContents, folder_at, folders_at, with_folder}
 use Rattle.desync_cli.specs.Exact.{Caches, FillsInOrder, GainsListed, GiveOneKind, IsFirstLacking, IsListedAmong, NamesLacking}
@@ -114,9 +116,9 @@ fault_not_done (fills.StoreFault s) same = absurd (cc)
 fault_not_done fills.CacheFault same = absurd (cc)
 fault_not_done fills.Memory same = absurd (cc)
 
-module _ (x : Contents) (w u v : World) (at : IsAt x w u) (quiet : IsQuiet w v) (stores : List Location) (fs : List (Map (List ℕ))) (are : map (location_files x.folders) stores ≡ map Some fs) (cache : List ℕ) (indexes_all : List (List ℕ)) (files : IsTrue (are_files indexes_all)) (f : Map (List ℕ)) where
+module _ (x : Contents) (w u v : World) (at : IsAt x w u) (quiet : IsQuiet w v) (groups : List (List Location)) (retries : ℕ) (fs : List (Map (List ℕ))) (are : map (group_files x.folders) groups ≡ map Some fs) (cache : List ℕ) (indexes_all : List (List ℕ)) (files : IsTrue (are_files indexes_all)) (f : Map (List ℕ)) where
   abbrev over : Evidence
-  over = of_command (storage_of u) (storage_of v) stores cache
+  over = of_command retries (storage_of u) (storage_of v) groups cache
 
   abbrev Listed : DigestKind → List ℕ → ℕ → Type 0
   Listed = IsListedAmong x.files indexes_all
@@ -128,7 +130,7 @@ module _ (x : Contents) (w u v : World) (at : IsAt x w u) (quiet : IsQuiet w v) 
   IsSome_of indexes = (p : List ℕ) → Contains indexes p → Contains indexes_all p
 
   holding : over.holds fs
-  holding = subst (λ y. IsSomeAnd y (λ n. map (location_files n) stores ≡ map Some fs)) (sym at.has.folders) are
+  holding = subst (λ y. IsSomeAnd y (λ n. map (group_files n) groups ≡ map Some fs)) (sym at.has.folders) are
 
   file_here : (q : List ℕ) (indexes : List (List ℕ)) → IsSome_of (q ∷ indexes) → IsTrue (is_file q)
   file_here q indexes some = file_among indexes_all files q (some q (among_first q indexes))
@@ -242,9 +244,9 @@ module _ (x : Contents) (w u v : World) (at : IsAt x w u) (quiet : IsQuiet w v) 
     held_is : (o : Option (Map (List ℕ))) → IfSome u.disk.folders (λ m. m cache ≡ o) → o ≡ Some f
     held_is o was = let h : x.folders cache ≡ o = subst (λ y. IfSome y (λ m. m cache ≡ o)) at.has.folders was in sym h ∙ there
 
-    filled_so : (r : Result Unit Outcome) → OnStorage (IndexesFilled stores cache most indexes_all) u r v → EndsSo x v (Caches (map chunks fs) cache indexes_all f) (outcome_of r)
+    filled_so : (r : Result Unit Outcome) → OnStorage (IndexesFilled groups retries cache most indexes_all) u r v → EndsSo x v (Caches (map chunks fs) cache indexes_all f) (outcome_of r)
     filled_so r h = go r h.0.filled where
-      b : FilledBetween stores cache most indexes_all (storage_of u) (storage_of v) r
+      b : FilledBetween groups retries cache most indexes_all (storage_of u) (storage_of v) r
       b = h.0
 
       was : b.held ≡ Some f
@@ -293,10 +295,10 @@ module _ (x : Contents) (w u v : World) (at : IsAt x w u) (quiet : IsQuiet w v) 
       ]
 
 module _ (x : Contents) (w v : World) (quiet : IsQuiet w v) where
-  pub caches_so : (stores : List Location) (cache : List ℕ) (most : ℕ) (indexes : List (List ℕ)) → IsTrue (are_folders stores) → IsTrue (are_files indexes) → HasContents w x → (r : Result Unit Outcome) → CacheEnds stores cache most indexes w r v
-      → EndsSo x v (folders_at stores (λ fs. folder_at cache (Caches (map chunks fs) cache indexes))) (outcome_of r)
-  caches_so stores cache most indexes all files has = stores_so x w v quiet stores all (λ fs. folder_at cache (Caches (map chunks fs) cache indexes))
-      (λ _. OnDisk (CacheOpened stores (Some cache)) >>= (λ _. OnStorage (IndexesFilled stores cache most indexes)))
-      (λ fs e at are. cache_so x w v quiet stores cache (Caches (map chunks fs) cache indexes) (λ _. OnStorage (IndexesFilled stores cache most indexes))
-      (λ f u after there. filled_so x w u v after quiet stores fs are cache indexes files f there most) e at)
+  pub caches_so : (groups : List (List Location)) (retries : ℕ) → AreAlone groups → (cache : List ℕ) (most : ℕ) (indexes : List (List ℕ)) → IsTrue (are_folders (stores_of groups)) → IsTrue (are_files indexes) → HasContents w x → (r : Result Unit Outcome) → CacheEnds groups retries cache most indexes w r v
+      → EndsSo x v (folders_at (stores_of groups) (λ fs. folder_at cache (Caches (map chunks fs) cache indexes))) (outcome_of r)
+  caches_so groups retries alone cache most indexes all files has = stores_so x w v quiet (stores_of groups) all (λ fs. folder_at cache (Caches (map chunks fs) cache indexes))
+      (λ _. OnDisk (CacheOpened (stores_of groups) (Some cache)) >>= (λ _. OnStorage (IndexesFilled groups retries cache most indexes)))
+      (λ fs e at are. cache_so x w v quiet (stores_of groups) cache (Caches (map chunks fs) cache indexes) (λ _. OnStorage (IndexesFilled groups retries cache most indexes))
+      (λ f u after there. filled_so x w u v after quiet groups retries fs (alone_files x.folders groups alone ∙ are) cache indexes files f there most) e at)
       w (at_first x w has)

@@ -26,6 +26,9 @@ use Rattle.command_worlds.specs.Steps.{◌>>=◌, outcome_of}
 use Rattle.command_worlds.specs.Worlds.{DiskQuiet, FileRose, OnDisk, World, world}
 use Rattle.desync_cli.proofs.AtHand.{Climbs, NoneRose, climbs_on, filled_climbs, none_rose, self_climbs, wrote_climbs}
 use Rattle.desync_cli.proofs.ExactCache.{is_memory}
+use Rattle.command_groups.specs.Groups.{group_files, stores_of}
+use Rattle.desync_cli.proofs.Grouped.{AreAlone, alone_files, none_lacking}
+use Rattle.extract_command.specs.declared.stores.Stores.{Stores}
 use Rattle.desync_cli.proofs.Readings.{EndsSo, IsAt, IsQuiet, any_cache_so, at_first, index_so, indexes_so, none_failed, some_not, stores_so}
 use Rattle.desync_cli.specs.AtHand.{into}
 use Rattle.desync_cli.specs.Contents.{Contents, HasContents, folders_at, index_at, indexes_at}
@@ -64,7 +67,7 @@ quiet_between w d e v quiet a b = record {
   folders = λ q. let last = quiet.folders q in let first = a.folders q in let after = b.folders q in record { same = omega (arith, last.same, first, after); below = omega (arith, last.below, after) };
 }
 
-module _ (x : Contents) (w v u : World) (at : IsAt x w u) (quiet : IsQuiet w v) (stores : List Location) (all : IsTrue (are_folders stores)) (fs : List (Map (List ℕ))) (are : map (location_files x.folders) stores ≡ map Some fs)
+module _ (x : Contents) (w v u : World) (at : IsAt x w u) (quiet : IsQuiet w v) (stores : Stores) (alone : AreAlone stores.groups) (all : IsTrue (are_folders (stores_of stores.groups))) (fs : List (Map (List ℕ))) (are : map (group_files x.folders) stores.groups ≡ map Some fs)
     (cache : Option (List ℕ)) (cs : List (Map (List ℕ))) (cached : map x.folders (folder_of cache) ≡ map Some cs) (l : Listing) (z : Seeds) where
   so_far : Climbs w.disk u.disk
   so_far = record { files = at.files; folders = at.folders }
@@ -85,8 +88,8 @@ module _ (x : Contents) (w v u : World) (at : IsAt x w u) (quiet : IsQuiet w v) 
 
   gains_so : (m : Map (Map (List ℕ))) → m ≡ x.folders → (f g : Map (List ℕ)) → CacheGrows l m stores f g → GainsListed (IsListedBy l) (map chunks fs) f g
   gains_so m same f g grows = record { held = held; strangers = grows.strangers } where
-    holds : map (location_files m) stores ≡ map Some fs
-    holds = subst (λ n. map (location_files n) stores ≡ map Some fs) (sym same) are
+    holds : map (group_files m) stores.groups ≡ map Some fs
+    holds = subst (λ n. map (group_files n) stores.groups ≡ map Some fs) (sym same) are
 
     held : (id : List ℕ) → (chunks g id ≡ chunks f id) ⊎ ((b : List ℕ) × (chunks g id ≡ Some b) × ((kind : DigestKind) × (n : ℕ) × IsListedBy l kind id n × IsChunk kind id n b) × Any (λ m. m id ≡ Some b) (map chunks fs))
     held id = elim (grows.held id) [
@@ -148,13 +151,10 @@ module _ (x : Contents) (w v u : World) (at : IsAt x w u) (quiet : IsQuiet w v) 
               record { listed = t.2.1.listed; least = t.2.2 fs are undisturbed; id_is = t.2.1.id_is; lacks = t.2.1.lacks fs are },
             )
 
-        abbrev Lacked : ChunkId → ℕ → Location → Type 0
-        Lacked id n y = Lacks (chunk_of (kind_of l) id (size_of l n)) (said_at (storage_of u) (storage e k) y)
-
         refused_so : (o : Outcome) → Assembled (storage_of u) (storage e k) stores cache i l z (Err o) → (o ≡ ends.Memory) ⊎ (Holds e × NamesLacking l Had (map chunks fs) o)
         refused_so (ends.Missing n id) h = inr (lacking_so n id refused.Missing h)
         refused_so (ends.Damaged n id s y) h = inr (lacking_so n id (refused.Damaged s y) h)
-        refused_so (ends.StoreFault s) h = absurd (none_failed (Lacked h.0.1 h.0.0) (λ y. Lacked h.0.1 h.0.0 y ⊎ StoreRose (storage_of u) (storage e k) y) (storage_of u) (storage e k) unrisen.folders s stores all h.0.4)
+        refused_so (ends.StoreFault s) h = absurd (none_lacking stores.retries (chunk_of (kind_of l) h.0.1 (size_of l h.0.0)) (storage_of u) (storage e k) unrisen.folders s stores.groups alone all h.0.4)
         refused_so ends.TargetFault h = absurd (unrisen.files i.name h.0)
         refused_so ends.Memory h = inl refl
         refused_so other h = absurd h
@@ -290,18 +290,18 @@ module _ (x : Contents) (w v u : World) (at : IsAt x w u) (quiet : IsQuiet w v) 
 
 -- ---- the command
 
-module _ (x : Contents) (w v : World) (quiet : IsQuiet w v) (sure : NeverFail) (stores : List Location) (all : IsTrue (are_folders stores)) (cache : Option (List ℕ)) (seeds : List (List ℕ)) (place : Bool) (index out : List ℕ) where
+module _ (x : Contents) (w v : World) (quiet : IsQuiet w v) (sure : NeverFail) (stores : Stores) (alone : AreAlone stores.groups) (all : IsTrue (are_folders (stores_of stores.groups))) (cache : Option (List ℕ)) (seeds : List (List ℕ)) (place : Bool) (index out : List ℕ) where
   abbrev seeds_of : List Listing → Seeds
   seeds_of ls = record { images = map image_name seeds; listings = ls }
 
   pub extracts_so : IsTrue (is_file index) → HasContents w x → (r : Result Unit Outcome) → ExtractEnds sure stores cache seeds place index out w r v
-      → EndsSo x v (index_at index (λ l. indexes_at 0 seeds (λ ls. folders_at stores (λ fs. folders_at (map locations.Folder (folder_of cache)) (λ cs. Extracts l (seeds_of ls) fs cs cache place out))))) (outcome_of r)
-  extracts_so file has = index_so x w v quiet index file (λ l. indexes_at 0 seeds (λ ls. folders_at stores (λ fs. folders_at (map locations.Folder (folder_of cache)) (λ cs. Extracts l (seeds_of ls) fs cs cache place out))))
-      (λ l. OnDisk (IndexesRead seeds) >>= (λ ls. OnDisk (SourcesOpened stores) >>= (λ _. OnDisk (CacheOpened stores cache) >>= (λ _. OutMade sure place stores cache out l (seeds_of ls)))))
-      (λ l e at is. indexes_so x w v quiet seeds (λ ls. folders_at stores (λ fs. folders_at (map locations.Folder (folder_of cache)) (λ cs. Extracts l (seeds_of ls) fs cs cache place out)))
-      (λ ls. OnDisk (SourcesOpened stores) >>= (λ _. OnDisk (CacheOpened stores cache) >>= (λ _. OutMade sure place stores cache out l (seeds_of ls))))
-      (λ ls e at. stores_so x w v quiet stores all (λ fs. folders_at (map locations.Folder (folder_of cache)) (λ cs. Extracts l (seeds_of ls) fs cs cache place out))
-      (λ _. OnDisk (CacheOpened stores cache) >>= (λ _. OutMade sure place stores cache out l (seeds_of ls)))
-      (λ fs e at are. any_cache_so x w v quiet stores cache (λ cs. Extracts l (seeds_of ls) fs cs cache place out) (λ _. OutMade sure place stores cache out l (seeds_of ls))
-      (λ cs u after cached. out_so x w v u after quiet stores all fs are cache cs cached l (seeds_of ls) sure out place) e at) e at) e at)
+      → EndsSo x v (index_at index (λ l. indexes_at 0 seeds (λ ls. folders_at (stores_of stores.groups) (λ fs. folders_at (map locations.Folder (folder_of cache)) (λ cs. Extracts l (seeds_of ls) fs cs cache place out))))) (outcome_of r)
+  extracts_so file has = index_so x w v quiet index file (λ l. indexes_at 0 seeds (λ ls. folders_at (stores_of stores.groups) (λ fs. folders_at (map locations.Folder (folder_of cache)) (λ cs. Extracts l (seeds_of ls) fs cs cache place out))))
+      (λ l. OnDisk (IndexesRead seeds) >>= (λ ls. OnDisk (SourcesOpened (stores_of stores.groups)) >>= (λ _. OnDisk (CacheOpened (stores_of stores.groups) cache) >>= (λ _. OutMade sure place stores cache out l (seeds_of ls)))))
+      (λ l e at is. indexes_so x w v quiet seeds (λ ls. folders_at (stores_of stores.groups) (λ fs. folders_at (map locations.Folder (folder_of cache)) (λ cs. Extracts l (seeds_of ls) fs cs cache place out)))
+      (λ ls. OnDisk (SourcesOpened (stores_of stores.groups)) >>= (λ _. OnDisk (CacheOpened (stores_of stores.groups) cache) >>= (λ _. OutMade sure place stores cache out l (seeds_of ls))))
+      (λ ls e at. stores_so x w v quiet (stores_of stores.groups) all (λ fs. folders_at (map locations.Folder (folder_of cache)) (λ cs. Extracts l (seeds_of ls) fs cs cache place out))
+      (λ _. OnDisk (CacheOpened (stores_of stores.groups) cache) >>= (λ _. OutMade sure place stores cache out l (seeds_of ls)))
+      (λ fs e at are. any_cache_so x w v quiet (stores_of stores.groups) cache (λ cs. Extracts l (seeds_of ls) fs cs cache place out) (λ _. OutMade sure place stores cache out l (seeds_of ls))
+      (λ cs u after cached. out_so x w v u after quiet stores alone all fs (alone_files x.folders stores.groups alone ∙ are) cache cs cached l (seeds_of ls) sure out place) e at) e at) e at)
       w (at_first x w has)

@@ -2,7 +2,7 @@
 use Rattle.std.proofs.Common.{ap, Bool, is_some, map, true, false, ◌≡◌, ◌<◌, ℕ, List, Option, Some, None, IfSome, Ok, subst, sym, ◌∙◌}
 use Rattle.caibx_codec.specs.Listing.{Listing, count_of}
 use Rattle.caibx_codec.specs.Right.{IsRight}
-use Rattle.command_words.specs.declared.command.Location.{Location}
+use Rattle.command_groups.specs.Groups.{stores_of}
 use Rattle.command_indexes.proofs.Got.{got_reads}
 use Rattle.command_indexes.proofs.Spelled.{got_then}
 use Rattle.command_indexes.specs.Spelled.{IndexSpells}
@@ -12,6 +12,7 @@ use Rattle.command_steps.specs.Sources.{storage, storage_of}
 use Rattle.command_words.specs.Locations.{index_place_of}
 use Rattle.command_steps.specs.Seeds.{image_name}
 use Rattle.command_worlds.specs.Worlds.{World}
+use Rattle.extract_command.specs.declared.stores.Stores.{Stores}
 use Rattle.extract_command.specs.Extract.{ExtractEnds, HadFrom, Into, IsExtracted, KeepsIn, NeverFail, Seeds, WhereFolders, beside, folder_of, in_place, temporary_out}
 use Rattle.extract_command.proofs.Replaced.{beside_apart}
 use Rattle.dsy_base.proofs.Counts.{at_other, at_same}
@@ -20,11 +21,11 @@ use Rattle.dsy_base.specs.Maps.{Map, at_name}
 use Rattle.std.specs.Option.{option_map}
 
 -- what the assembly from d to e says of the file, over what files and folders hold
-abbrev MadeOver : List Location → Option (List ℕ) → Into → Listing → Seeds → Disk → Disk → Option (Map (List ℕ)) → Option (Map (Map (List ℕ))) → Option (Map (List ℕ)) → Type 0
+abbrev MadeOver : Stores → Option (List ℕ) → Into → Listing → Seeds → Disk → Disk → Option (Map (List ℕ)) → Option (Map (Map (List ℕ))) → Option (Map (List ℕ)) → Type 0
 MadeOver stores cache o l x d e f y z = IfSome f (λ b. IfSome y (λ n. IfSome z (λ a. (cs : List (Map (List ℕ))) × (map n (folder_of cache) ≡ map Some cs)
     × (((t : List ℕ) × KeepsIn d e b a o l t × IsRight t l) × WhereFolders n stores (λ fs. (i : ℕ) → i < count_of l → HadFrom b o l x cs fs i)))))
 
-module _ (Spelled : List ℕ → Listing → Type 0) (names : List Location) (cache : Option (List ℕ)) (index out : List ℕ) (l : Listing) (x : Seeds) (d e : Disk) (listed : Spelled index l) where
+module _ (Spelled : List ℕ → Listing → Type 0) (names : Stores) (cache : Option (List ℕ)) (index out : List ℕ) (l : Listing) (x : Seeds) (d e : Disk) (listed : Spelled index l) where
   -- over files that tell, of which the folders tell too
   over_files : (f : Option (Map (List ℕ))) (y : Option (Map (Map (List ℕ)))) (z : Option (Map (List ℕ))) → is_some f ≡ is_some y → is_some z ≡ is_some f → MadeOver names cache (in_place out) l x d e f y z
       → IfSome z (λ a. IsExtracted Spelled a index out)
@@ -48,14 +49,14 @@ module _ (Spelled : List ℕ → Listing → Type 0) (names : List Location) (ca
       let made_so : IsExtracted Spelled now index out = record { listing = l; listed = listed; image = t; holds = holds; right = made.2.0.2 } in
       subst (λ o. IfSome o (λ a. IsExtracted Spelled a index out)) (sym is) made_so
 
-pub extracted : (sure : NeverFail) (stores : List Location) (cache : Option (List ℕ)) (seeds : List (List ℕ)) (place : Bool) (index out : List ℕ) (w v : World) → is_some w.disk.files ≡ is_some w.disk.folders → ExtractEnds sure stores cache seeds place index out w (Ok tt) v
+pub extracted : (sure : NeverFail) (stores : Stores) (cache : Option (List ℕ)) (seeds : List (List ℕ)) (place : Bool) (index out : List ℕ) (w v : World) → is_some w.disk.files ≡ is_some w.disk.folders → ExtractEnds sure stores cache seeds place index out w (Ok tt) v
     → IfSome v.disk.files (λ a. IsExtracted (IndexSpells (storage_of w) (storage_of v)) a index out)
 extracted sure stores cache seeds true index out w v told h =
     let got = got_reads index (index_place_of index) (storage_of w) (Ok h.gave) (storage h.disk h.dial) h.did.0 in
     let made_so = h.then.then.then.then.0 in
     let later : Dials h.dial v.dial = subst (λ k. Dials k v.dial) (h.then.then.then.did.1 ∙ h.then.then.did.1 ∙ h.then.did.1) made_so.3.0 in
     let spells = got_then index (storage_of w) (storage h.disk h.dial) (storage_of v) h.gave h.did.0 later in
-    let reached = cache_reads stores cache h.then.then.disk h.then.then.then.disk (Ok tt) h.then.then.then.did.0 in
+    let reached = cache_reads (stores_of stores.groups) cache h.then.then.disk h.then.then.then.disk (Ok tt) h.then.then.then.did.0 in
     let files = reached.files ∙ h.then.then.did.0.1.files ∙ h.then.did.0.1.files ∙ got.files in
     let folders = reached.folders ∙ h.then.then.did.0.1.folders ∙ h.then.did.0.1.folders ∙ got.folders in
     let d = h.then.then.then.disk in
@@ -70,7 +71,7 @@ extracted sure stores cache seeds false index out w v told h =
     let last = h.then.then.then.then.then.0 in
     let later : Dials h.dial v.dial = subst (Dials h.dial) (sym last.1) (subst (λ k. Dials k h.then.then.then.then.dial) (h.then.then.then.did.1 ∙ h.then.then.did.1 ∙ h.then.did.1) made_so.3.0) in
     let spells = got_then index (storage_of w) (storage h.disk h.dial) (storage_of v) h.gave h.did.0 later in
-    let reached = cache_reads stores cache h.then.then.disk h.then.then.then.disk (Ok tt) h.then.then.then.did.0 in
+    let reached = cache_reads (stores_of stores.groups) cache h.then.then.disk h.then.then.then.disk (Ok tt) h.then.then.then.did.0 in
     let files = reached.files ∙ h.then.then.did.0.1.files ∙ h.then.did.0.1.files ∙ got.files in
     let folders = reached.folders ∙ h.then.then.did.0.1.folders ∙ h.then.did.0.1.folders ∙ got.folders in
     let d = h.then.then.then.disk in

@@ -29,7 +29,10 @@ use Rattle.command_worlds.specs.Steps.{Passed, answer_of, outcome_of}
 use Rattle.command_worlds.specs.Worlds.{FileRose, FolderRose, NoFault, Step, World, Writes, world}
 use Rattle.command_steps.proofs.Dialed.{dials_same}
 use Rattle.command_indexes.proofs.FairSteps.{IsFair, IsLeft, IsRefusal, IsStep, Unread, adds, behind, between, bound, consults, cache_step, fair_longer, image_step, indexes_step, left_twice, on_disk, on_out, on_sources, printed_step, pure_step, reads, round, source_failed, source_taken_step, sources_fair, sources_step, taken_step, whole, writes}
+use Rattle.command_groups.specs.Groups.{stores_of}
 use Rattle.command_steps.proofs.Numbers.{rose_not_quiet}
+use Rattle.desync_cli.proofs.Grouped.{HaveStores, group_failed, lacking_failed}
+use Rattle.extract_command.specs.declared.stores.Stores.{Stores}
 use Rattle.cache_command.specs.Caching.{EndsFilling, FillTells, IndexesFilled, NotFilled, of_command, outcome_of_fill}
 use Rattle.cat_command.specs.Cat.{RangePut, range_size}
 use Rattle.cat_command.specs.Putting.{chunk_at}
@@ -63,17 +66,17 @@ use Rattle.cache_fill.specs.declared.fill.FillFault.TheVariants as fills
 
 -- ---- the steps of one command
 
-module _ (s : Spares) (x : Parts) (p : Output) (spared : IsTrue s.dial → IsTrue (are_folders x.stores)) where
-  asked_fair : (l : Listing) (w v : Storage) (o : Outcome) → NotAsked w v x.stores l o → IsFair x o (behind p w) (behind p v)
-  asked_fair l w v (ends.StoreFault k) h = (tt, source_failed (λ y. y.denied (id_of l h.1.0)) (behind p w) (behind p v) k x.stores h.1.2)
+module _ (s : Spares) (x : Parts) (p : Output) (groups : List (List Location)) (retries : ℕ) (some : HaveStores groups) (are : x.stores ≡ stores_of groups) (spared : IsTrue s.dial → IsTrue (are_folders (stores_of groups))) where
+  asked_fair : (l : Listing) (w v : Storage) (o : Outcome) → NotAsked retries w v groups l o → IsFair x o (behind p w) (behind p v)
+  asked_fair l w v (ends.StoreFault k) h = (tt, subst (λ (q : List Location). StoreRose w v (store_at q k)) (sym are) (group_failed (λ y. y.denied (id_of l h.1.0)) retries w v k groups some h.1.2))
   asked_fair l w v ends.Memory h = (tt, tt)
   asked_fair l w v other h = absurd h
 
-  counted_step : (l : Listing) → IsStep (behind p) s x (IdsCounted x.stores l)
-  counted_step l = record { fair = go; leaves = λ w v r h. consults p x.stores spared h.1 } where
-    go : (w v : Storage) (o : Outcome) → IdsCounted x.stores l w (Err o) v → IsFair x o (behind p w) (behind p v)
+  counted_step : (l : Listing) → IsStep (behind p) s x (IdsCounted groups retries l)
+  counted_step l = record { fair = go; leaves = λ w v r h. consults p (stores_of groups) spared h.1 } where
+    go : (w v : Storage) (o : Outcome) → IdsCounted groups retries l w (Err o) v → IsFair x o (behind p w) (behind p v)
     go w v o h = elim h.0 [
-      | inl k ↦ sources_fair s x p w v x.stores o k
+      | inl k ↦ sources_fair s x p w v (stores_of groups) o k
       | inr k ↦ asked_fair l w v o k
     ]
 
@@ -93,8 +96,8 @@ module _ (s : Spares) (x : Parts) (p : Unread) where
   written_fair q bytes d e other h = absurd h.0
 
 -- what a step leaves that writes files, and the folder of a cache, and asks servers
-filled : {o : Bool} {stores : List Location} {cache : Option (List ℕ)} {l : Listing} {w v : Storage} (p : Output) → FillsCache stores cache l w.disk v.disk → DialsStores stores w.dial v.dial
-    → IsLeft (record { files = false; folders = not (is_some cache); dial = are_folders stores; out = o }) (behind p w) (behind p v)
+filled : {o : Bool} {stores : Stores} {cache : Option (List ℕ)} {l : Listing} {w v : Storage} (p : Output) → FillsCache stores cache l w.disk v.disk → DialsStores (stores_of stores.groups) w.dial v.dial
+    → IsLeft (record { files = false; folders = not (is_some cache); dial = are_folders (stores_of stores.groups); out = o }) (behind p w) (behind p v)
 filled {o} {stores} {cache} {l} {w} {v} p r dials = record {
   keeps = record { files = λ t. absurd (cc); folders = go cache r.folders; dial = dials.1; out = λ t. refl };
   files = r.counts;
@@ -106,21 +109,21 @@ filled {o} {stores} {cache} {l} {w} {v} p r dials = record {
   go None same t = same
   go (Some c) h t = absurd (cc)
 
-assembled_step : (sure : NeverFail) (o : Bool) (x : Parts) (p : Output) (cache : Option (List ℕ)) (l : Listing) (z : Seeds) (i : Into) → i.name ≡ x.target
-    → IsStep (behind p) (record { files = false; folders = not (is_some cache); dial = are_folders x.stores; out = o }) x (ImageMade sure x.stores cache i l z)
-assembled_step sure o x p cache l z i is = record { fair = fair; leaves = λ w v r h. filled p h.1 h.3 } where
-  fair : (w v : Storage) (o : Outcome) → ImageMade sure x.stores cache i l z w (Err o) v → IsFair x o (behind p w) (behind p v)
+assembled_step : (sure : NeverFail) (o : Bool) (x : Parts) (p : Output) (stores : Stores) → HaveStores stores.groups → x.stores ≡ stores_of stores.groups → (cache : Option (List ℕ)) (l : Listing) (z : Seeds) (i : Into) → i.name ≡ x.target
+    → IsStep (behind p) (record { files = false; folders = not (is_some cache); dial = are_folders (stores_of stores.groups); out = o }) x (ImageMade sure stores cache i l z)
+assembled_step sure o x p stores some are cache l z i is = record { fair = fair; leaves = λ w v r h. filled p h.1 h.3 } where
+  fair : (w v : Storage) (o : Outcome) → ImageMade sure stores cache i l z w (Err o) v → IsFair x o (behind p w) (behind p v)
   fair w v (ends.Missing k id) h = (tt, tt)
   fair w v (ends.Damaged k id store shows) h = (tt, tt)
-  fair w v (ends.StoreFault k) h = (tt, source_failed (Lacks (chunk_of (kind_of l) h.0.0.1 (size_of l h.0.0.0))) (behind p w) (behind p v) k x.stores h.0.0.4)
+  fair w v (ends.StoreFault k) h = (tt, subst (λ (q : List Location). StoreRose w v (store_at q k)) (sym are) (lacking_failed stores.retries (chunk_of (kind_of l) h.0.0.1 (size_of l h.0.0.0)) w v k stores.groups some h.0.0.4))
   fair w v ends.TargetFault h = (tt, subst (λ q. FileRose w.disk v.disk q) is h.0.0)
   fair w v ends.Memory h = (tt, tt)
   fair w v other h = absurd h.0
 
 -- ---- the steps of `cat`
 
-put_step : (x : Parts) (l : Listing) (at n : ℕ) → IsStep whole (record { files = true; folders = true; dial = are_folders x.stores; out = false }) x (RangePut x.stores l at n)
-put_step x l at n = record {
+put_step : (x : Parts) (groups : List (List Location)) (retries : ℕ) → HaveStores groups → x.stores ≡ stores_of groups → (l : Listing) (at n : ℕ) → IsStep whole (record { files = true; folders = true; dial = are_folders (stores_of groups); out = false }) x (RangePut groups retries l at n)
+put_step x groups retries some are l at n = record {
   fair = fair;
   leaves = λ w v r h. record {
     keeps = record { files = λ t. h.1.0.disk.files; folders = λ t. h.1.0.disk.folders; dial = h.1.1; out = λ t. absurd (cc) };
@@ -130,38 +133,38 @@ put_step x l at n = record {
     out = h.3;
   };
 } where
-  fair : (w v : World) (o : Outcome) → RangePut x.stores l at n w (Err o) v → IsFair x o w v
+  fair : (w v : World) (o : Outcome) → RangePut groups retries l at n w (Err o) v → IsFair x o w v
   fair w v (ends.Missing k id) h = (tt, tt)
   fair w v (ends.Damaged k id store shows) h = (tt, tt)
-  fair w v (ends.StoreFault s) h = (tt, source_failed (Lacks (chunk_at (kind_of l) l h.0.0)) w v s x.stores h.0.2.said)
+  fair w v (ends.StoreFault s) h = (tt, subst (λ (q : List Location). StoreRose (storage_of w) (storage_of v) (store_at q s)) (sym are) (lacking_failed retries (chunk_at (kind_of l) l h.0.0) (storage_of w) (storage_of v) s groups some h.0.2.said))
   fair w v ends.OutFault h = (tt, h.0.0)
   fair w v ends.Memory h = (tt, tt)
   fair w v other h = absurd h.0
 
 -- ---- the steps of `cache`
 
-module _ (x : Parts) (p : Output) (w v : Storage) where
-  fill_fair : (l : Listing) (y : Option (Map (List ℕ))) (n : ℕ) (fault : FillFault) → FillTells (of_command w v x.stores x.cache) l y n fault → IsFair x (outcome_of_fill fault) (behind p w) (behind p v)
+module _ (x : Parts) (p : Output) (groups : List (List Location)) (retries : ℕ) (some : HaveStores groups) (are : x.stores ≡ stores_of groups) (w v : Storage) where
+  fill_fair : (l : Listing) (y : Option (Map (List ℕ))) (n : ℕ) (fault : FillFault) → FillTells (of_command retries w v groups x.cache) l y n fault → IsFair x (outcome_of_fill fault) (behind p w) (behind p v)
   fill_fair l y n (fills.Missing k id) h = (tt, tt)
   fill_fair l y n (fills.Damaged k id store shows) h = (tt, tt)
-  fill_fair l y n (fills.StoreFault k) h = (tt, source_failed (Lacks (entry_want l n h.0)) (behind p w) (behind p v) k x.stores h.1.said)
+  fill_fair l y n (fills.StoreFault k) h = (tt, subst (λ (q : List Location). StoreRose w v (store_at q k)) (sym are) (lacking_failed retries (entry_want l n h.0) w v k groups some h.1.said))
   fill_fair l y n fills.CacheFault h = (tt, h.0)
   fill_fair l y n fills.Memory h = (tt, tt)
 
-  ends_fair : (l : Listing) (held files : Option (Map (List ℕ))) (fault : FillFault) → EndsFilling (of_command w v x.stores x.cache) l fault held files → IsFair x (outcome_of_fill fault) (behind p w) (behind p v)
+  ends_fair : (l : Listing) (held files : Option (Map (List ℕ))) (fault : FillFault) → EndsFilling (of_command retries w v groups x.cache) l fault held files → IsFair x (outcome_of_fill fault) (behind p w) (behind p v)
   ends_fair l held files fault (inl none) = subst (λ f. IsFair x (outcome_of_fill f) (behind p w) (behind p v)) (sym none.0) (tt, tt)
   ends_fair l held files fault (inr h) = fill_fair l files h.entry fault h.tells
 
-  each_fair : (indexes : List (List ℕ)) → ((q : List ℕ) → Contains indexes q → Contains x.indexes q) → (held files : Option (Map (List ℕ))) (o : Outcome) → NotFilled (of_command w v x.stores x.cache) w v indexes held files o → IsFair x o (behind p w) (behind p v)
+  each_fair : (indexes : List (List ℕ)) → ((q : List ℕ) → Contains indexes q → Contains x.indexes q) → (held files : Option (Map (List ℕ))) (o : Outcome) → NotFilled (of_command retries w v groups x.cache) w v indexes held files o → IsFair x o (behind p w) (behind p v)
   each_fair [] among held files o h = absurd h
   each_fair (q ∷ indexes) among held files o (inl h) = not_spelled_fair x p w v q (among q (0, omega arith, refl)) o h.0
   each_fair (q ∷ indexes) among held files o (inr (l, listed, inl (fault, is, filled))) = subst (λ r. IsFair x r (behind p w) (behind p v)) (sym is) (ends_fair l held files fault filled.order)
   each_fair (q ∷ indexes) among held files o (inr (l, listed, inr (z, filled, rest))) = each_fair indexes (λ a has. among a (suc has.0, omega (arith, has.1), has.2)) z files o rest
 
-filled_step : (f o : Bool) (x : Parts) (p : Output) (most : ℕ) (indexes : List (List ℕ)) → ((q : List ℕ) → Contains indexes q → Contains x.indexes q)
-    → IsStep (behind p) (record { files = f; folders = false; dial = are_folders x.stores && are_files indexes; out = o }) x (IndexesFilled x.stores x.cache most indexes)
-filled_step f o x p most indexes among = record {
-  fair = λ w v r h. each_fair x p w v indexes among h.held h.now r h.filled;
+filled_step : (f o : Bool) (x : Parts) (p : Output) (groups : List (List Location)) (retries : ℕ) → HaveStores groups → x.stores ≡ stores_of groups → (most : ℕ) (indexes : List (List ℕ)) → ((q : List ℕ) → Contains indexes q → Contains x.indexes q)
+    → IsStep (behind p) (record { files = f; folders = false; dial = are_folders (stores_of groups) && are_files indexes; out = o }) x (IndexesFilled groups retries x.cache most indexes)
+filled_step f o x p groups retries some are most indexes among = record {
+  fair = λ w v r h. each_fair x p groups retries some are w v indexes among h.held h.now r h.filled;
   leaves = λ w v r h. record {
     keeps = record { files = λ t. h.adds.files; folders = λ t. absurd (cc); dial = h.undialed; out = λ t. refl };
     files = h.adds.counts;
@@ -203,11 +206,11 @@ renamed_step f n o x p from to = record { fair = fair; leaves = leaves } where
   leaves d e (Ok t) h = writes p (wrote_on d e to h.1)
   leaves d e (Err r) h = writes p (wrote_on d e to h.2)
 
-out_step : (sure : NeverFail) (o : Bool) (x : Parts) (cache : Option (List ℕ)) (l : Listing) (z : Seeds) (place : Bool) (out : List ℕ) → x.target ≡ cond place out (temporary_out out)
-    → IsStep whole (record { files = false; folders = not (is_some cache); dial = are_folders x.stores; out = o }) x (OutMade sure place x.stores cache out l z)
-out_step sure o x cache l z true out is = on_sources (λ p. assembled_step sure o x p cache l z (in_place out) (sym is))
-out_step sure o x cache l z false out is =
-    bound (on_sources (λ p. cleared_step _ _ o x p (temporary_out out) _ (assembled_step sure o x p cache l z (beside out) (sym is))))
+out_step : (sure : NeverFail) (o : Bool) (x : Parts) (stores : Stores) → HaveStores stores.groups → x.stores ≡ stores_of stores.groups → (cache : Option (List ℕ)) (l : Listing) (z : Seeds) (place : Bool) (out : List ℕ) → x.target ≡ cond place out (temporary_out out)
+    → IsStep whole (record { files = false; folders = not (is_some cache); dial = are_folders (stores_of stores.groups); out = o }) x (OutMade sure place stores cache out l z)
+out_step sure o x stores some are cache l z true out is = on_sources (λ p. assembled_step sure o x p stores some are cache l z (in_place out) (sym is))
+out_step sure o x stores some are cache l z false out is =
+    bound (on_sources (λ p. cleared_step _ _ o x p (temporary_out out) _ (assembled_step sure o x p stores some are cache l z (beside out) (sym is))))
     (λ u. on_sources (λ p. cleared_step _ _ o x p (temporary_out out) _ (unasked_step p _ (λ q. renamed_step _ _ o x q (temporary_out out) out))))
 
 one_folder : (store : Location) → IsTrue (is_folder store) → IsTrue (are_folders (store ∷ []))
@@ -349,23 +352,23 @@ second : (a b : Bool) → IsTrue (a && b) → IsTrue b
 second true b t = t
 second false b t = absurd (cc)
 
-command_step : (sure : Bool) (h : Heard) (c : Command) → IsStep whole (spares c) (parts h c) (CommandEnds sure h c)
-command_step sure h (commands.Make store sizes workers digest index image) = bound (pure_step (SizesJudged sizes) (judged_fair (parts h (commands.Make store sizes workers digest index image)) sizes)) (λ z. bound (on_disk (λ p. image_step _ _ p)) (λ told. bound (on_disk (λ p. source_taken_step _ _ _ _ p _ store)) (λ held. bound (on_sources (λ p. stored_step _ p store refl _ _ digest z told held)) (λ bytes. on_disk (λ p. written_step _ _ _ _ p index bytes)))))
-command_step sure h (commands.VerifyIndex workers index image) = bound (on_sources (λ p. got_step p index (the_one index) (λ t. t))) (λ l. bound (on_disk (λ p. image_step _ _ p)) (λ told. on_disk (λ p. checked_step _ _ p l told)))
-command_step sure h (commands.Chop store workers index image) = bound (on_sources (λ p. got_step p index (the_one index) (second (is_folder store) (is_file index)))) (λ l. bound (on_disk (λ p. image_step _ _ p)) (λ told. bound (on_disk (λ p. source_taken_step _ _ _ _ p _ store)) (λ held. on_sources (λ p. dial_less (first (is_folder store) (is_file index)) (chopped_step _ p store refl _ _ l told held)))))
-command_step sure h (commands.Cache stores cache workers indexes) = bound (on_disk (λ p. sources_step _ _ p stores)) (λ u. bound (on_disk (λ p. cache_step _ _ p stores (Some cache))) (λ u. on_sources (λ p. filled_step _ _ (parts h (commands.Cache stores cache workers indexes)) p workers indexes (λ q has. has))))
-command_step sure h (commands.ListChunks index) = bound (on_sources (λ p. got_step p index (the_one index) (λ t. t))) (λ l. on_out (λ d. printed_step _ _ _ _ d (text_of_chunks l)))
-command_step sure h (commands.Extract stores seeds cache in_place workers index target) = bound (on_sources (λ p. got_step p index (the_one index) (second (are_folders stores) (is_file index)))) (λ l. bound (on_disk (λ p. indexes_step _ _ p seeds)) (λ ls. bound (on_disk (λ p. sources_step _ _ p stores)) (λ u. bound (on_disk (λ p. cache_step _ _ p stores cache)) (λ u. dial_less (first (are_folders stores) (is_file index)) (out_step (never_fail sure h.never_fails) _ (parts h (commands.Extract stores seeds cache in_place workers index target)) cache l (record { images = map image_name seeds; listings = ls }) in_place target refl)))))
-command_step sure h (commands.Cat stores offset length index) = bound (on_sources (λ p. got_step p index (the_one index) (second (are_folders stores) (is_file index)))) (λ l. bound (on_disk (λ p. sources_step _ _ p stores)) (λ u. dial_less (first (are_folders stores) (is_file index)) (put_step (parts h (commands.Cat stores offset length index)) l offset (range_size l offset length))))
-command_step sure h (commands.Info stores index) = bound (on_sources (λ p. got_step p index (the_one index) (second (are_folders stores) (is_file index)))) (λ l. bound (on_sources (λ p. counted_step _ _ p (first (are_folders stores) (is_file index)) l)) (λ n. on_out (λ d. printed_step _ _ _ _ d (text_of_info l n))))
-command_step sure h (commands.Verify store repair workers digest) = bound (on_disk (λ p. taken_step _ _ _ _ p [] store)) (λ held. verified_step _ _ digest store repair held refl)
-command_step sure h (commands.Prune store indexes) = bound (indexes_got_step 0 indexes (λ q has. has) (λ t. t)) (λ ls. bound (on_disk (λ p. taken_step _ _ _ _ p [] store)) (λ held. on_disk (λ p. pruned_step _ _ _ _ p (is_listed_in ls) store held refl)))
-command_step sure h (commands.Demo number size workers digest) = bound (pure_step (Rehearsed digest number size) (rehearsed_fair (parts h (commands.Demo number size workers digest)) digest number size)) (λ f. on_out (λ d. printed_step _ _ _ _ d (text_of_figures f)))
-command_step sure h commands.Help = on_out (λ d. printed_step _ _ _ _ d (help_text topics.All))
-command_step sure h commands.Version = on_out (λ d. printed_step _ _ _ _ d (help_text topics.Version))
-command_step sure h (commands.HelpOn kind) = on_out (λ d. printed_step _ _ _ _ d (help_text (topics.Command kind)))
-command_step sure h (commands.ChunkServer store host port writable workers digest) = bound (on_disk (λ p. unheard_step _ _ _ _ p h store)) (λ held. on_disk (λ p. served_step _ _ _ _ p h store held _ _ refl))
-command_step sure h (commands.IndexServer store host port writable) = bound (on_disk (λ p. unheard_step _ _ _ _ p h store)) (λ held. on_disk (λ p. served_step _ _ _ _ p h store held _ _ refl))
+command_step : (sure : Bool) (h : Heard) (c : Command) → Fits c → IsStep whole (spares c) (parts h c) (CommandEnds sure h c)
+command_step sure h (commands.Make store sizes workers digest index image) f = bound (pure_step (SizesJudged sizes) (judged_fair (parts h (commands.Make store sizes workers digest index image)) sizes)) (λ z. bound (on_disk (λ p. image_step _ _ p)) (λ told. bound (on_disk (λ p. source_taken_step _ _ _ _ p _ store)) (λ held. bound (on_sources (λ p. stored_step _ p store refl _ _ digest z told held)) (λ bytes. on_disk (λ p. written_step _ _ _ _ p index bytes)))))
+command_step sure h (commands.VerifyIndex workers index image) f = bound (on_sources (λ p. got_step p index (the_one index) (λ t. t))) (λ l. bound (on_disk (λ p. image_step _ _ p)) (λ told. on_disk (λ p. checked_step _ _ p l told)))
+command_step sure h (commands.Chop store workers index image) f = bound (on_sources (λ p. got_step p index (the_one index) (second (is_folder store) (is_file index)))) (λ l. bound (on_disk (λ p. image_step _ _ p)) (λ told. bound (on_disk (λ p. source_taken_step _ _ _ _ p _ store)) (λ held. on_sources (λ p. dial_less (first (is_folder store) (is_file index)) (chopped_step _ p store refl _ _ l told held)))))
+command_step sure h (commands.Cache stores retries cache workers indexes) f = bound (on_disk (λ p. sources_step _ _ p (stores_of stores))) (λ u. bound (on_disk (λ p. cache_step _ _ p (stores_of stores) (Some cache))) (λ u. on_sources (λ p. filled_step _ _ (parts h (commands.Cache stores retries cache workers indexes)) p stores retries f.1.0 refl workers indexes (λ q has. has))))
+command_step sure h (commands.ListChunks index) f = bound (on_sources (λ p. got_step p index (the_one index) (λ t. t))) (λ l. on_out (λ d. printed_step _ _ _ _ d (text_of_chunks l)))
+command_step sure h (commands.Extract stores retries seeds cache in_place workers index target) f = bound (on_sources (λ p. got_step p index (the_one index) (second (are_folders (stores_of stores)) (is_file index)))) (λ l. bound (on_disk (λ p. indexes_step _ _ p seeds)) (λ ls. bound (on_disk (λ p. sources_step _ _ p (stores_of stores))) (λ u. bound (on_disk (λ p. cache_step _ _ p (stores_of stores) cache)) (λ u. dial_less (first (are_folders (stores_of stores)) (is_file index)) (out_step (never_fail sure h.never_fails) _ (parts h (commands.Extract stores retries seeds cache in_place workers index target)) (record { groups = stores; retries = retries }) f.1.0 refl cache l (record { images = map image_name seeds; listings = ls }) in_place target refl)))))
+command_step sure h (commands.Cat stores retries offset length index) f = bound (on_sources (λ p. got_step p index (the_one index) (second (are_folders (stores_of stores)) (is_file index)))) (λ l. bound (on_disk (λ p. sources_step _ _ p (stores_of stores))) (λ u. dial_less (first (are_folders (stores_of stores)) (is_file index)) (put_step (parts h (commands.Cat stores retries offset length index)) stores retries f.1.0 refl l offset (range_size l offset length))))
+command_step sure h (commands.Info stores retries index) f = bound (on_sources (λ p. got_step p index (the_one index) (second (are_folders (stores_of stores)) (is_file index)))) (λ l. bound (on_sources (λ p. counted_step _ _ p stores retries f.0.0 refl (first (are_folders (stores_of stores)) (is_file index)) l)) (λ n. on_out (λ d. printed_step _ _ _ _ d (text_of_info l n))))
+command_step sure h (commands.Verify store repair workers digest) f = bound (on_disk (λ p. taken_step _ _ _ _ p [] store)) (λ held. verified_step _ _ digest store repair held refl)
+command_step sure h (commands.Prune store indexes) f = bound (indexes_got_step 0 indexes (λ q has. has) (λ t. t)) (λ ls. bound (on_disk (λ p. taken_step _ _ _ _ p [] store)) (λ held. on_disk (λ p. pruned_step _ _ _ _ p (is_listed_in ls) store held refl)))
+command_step sure h (commands.Demo number size workers digest) f = bound (pure_step (Rehearsed digest number size) (rehearsed_fair (parts h (commands.Demo number size workers digest)) digest number size)) (λ f. on_out (λ d. printed_step _ _ _ _ d (text_of_figures f)))
+command_step sure h commands.Help f = on_out (λ d. printed_step _ _ _ _ d (help_text topics.All))
+command_step sure h commands.Version f = on_out (λ d. printed_step _ _ _ _ d (help_text topics.Version))
+command_step sure h (commands.HelpOn kind) f = on_out (λ d. printed_step _ _ _ _ d (help_text (topics.Command kind)))
+command_step sure h (commands.ChunkServer store host port writable workers digest) f = bound (on_disk (λ p. unheard_step _ _ _ _ p h store)) (λ held. on_disk (λ p. served_step _ _ _ _ p h store held _ _ refl))
+command_step sure h (commands.IndexServer store host port writable) f = bound (on_disk (λ p. unheard_step _ _ _ _ p h store)) (λ held. on_disk (λ p. served_step _ _ _ _ p h store held _ _ refl))
 
 -- a command that listens is none that doesn't
 pub none_such : {A : Type 0} → true ≡ false → A
@@ -374,8 +377,8 @@ none_such h = absurd (cc)
 -- ---- what the top call says
 
 -- the command began where the words were read
-pub begun : (sure : Bool) (k : Heard) (words : List (List ℕ)) (w v : World) (r : Result Unit Outcome) → Passed (WordsRead words) (CommandEnds sure k) w r v → (c : Command) × (command_of words ≡ Some c) × CommandEnds sure k c w r v
-begun sure k words w v r h = (h.gave, h.did.0, subst (λ u. CommandEnds sure k h.gave u r v) h.did.2 h.then)
+pub begun : (sure : Bool) (k : Heard) (words : List (List ℕ)) (w v : World) (r : Result Unit Outcome) → Passed (WordsRead words) (CommandEnds sure k) w r v → (c : Command) × (command_of words ≡ Some c) × CommandEnds sure k c w r v × Fits c
+begun sure k words w v r h = (h.gave, h.did.0, subst (λ u. CommandEnds sure k h.gave u r v) h.did.2 h.then, h.did.1)
 
 pub if_some : {X : Type 0} (o : Option X) (P : X → Type 0) (x : X) → o ≡ Some x → P x → IfSome o P
 if_some o P x is p = subst (λ r. IfSome r P) (sym is) p
@@ -401,16 +404,16 @@ words_answer words other h = refl
 
 answer_is : (sure : Bool) (k : Heard) (words : List (List ℕ)) (w v : World) (o : Outcome) → DesyncEnds sure k words w (Err o) v → answer_of o ≡ Err o
 answer_is sure k words w v o (inl h) = words_answer words o h.0
-answer_is sure k words w v o (inr h) = as_answer o ((command_step sure k h.gave).fair (between h) v o h.then).0
+answer_is sure k words w v o (inr h) = as_answer o ((command_step sure k h.gave h.did.1).fair (between h) v o h.then).0
 
 pub answered : (sure : Bool) (k : Heard) (words : List (List ℕ)) (w v : World) (r : Result Unit Outcome) → DesyncEnds sure k words w r v → DesyncEnds sure k words w (answer_of (outcome_of r)) v
 answered sure k words w v (Ok u) h = h
 answered sure k words w v (Err o) h = subst (λ (r : Result Unit Outcome). DesyncEnds sure k words w r v) (sym (answer_is sure k words w v o h)) h
 
 pub kept : (sure : Bool) (k : Heard) (words : List (List ℕ)) (w v : World) (r : Result Unit Outcome) → DesyncEnds sure k words w r v → IfSome (command_of words) (λ c. Keeps (spares c) w v)
-kept sure k words w v (Ok u) h = let b = begun sure k words w v (Ok u) h in if_some (command_of words) _ b.0 b.1 ((command_step sure k b.0).leaves w v (Ok u) b.2).keeps
+kept sure k words w v (Ok u) h = let b = begun sure k words w v (Ok u) h in if_some (command_of words) _ b.0 b.1 ((command_step sure k b.0 b.3).leaves w v (Ok u) b.2).keeps
 kept sure k words w v (Err o) (inl h) = if_any (command_of words) _ (λ c. subst (λ u. Keeps (spares c) w u) (sym h.1) (record { files = λ t. refl; folders = λ t. refl; dial = λ t. refl; out = λ t. refl }))
-kept sure k words w v (Err o) (inr h) = let b = begun sure k words w v (Err o) h in if_some (command_of words) _ b.0 b.1 ((command_step sure k b.0).leaves w v (Err o) b.2).keeps
+kept sure k words w v (Err o) (inr h) = let b = begun sure k words w v (Err o) h in if_some (command_of words) _ b.0 b.1 ((command_step sure k b.0 b.3).leaves w v (Err o) b.2).keeps
 
 words_blame : (words : List (List ℕ)) (x : Parts) (w v : World) (o : Outcome) → NoCommand words o → Blames x o w v
 words_blame words x w v (ends.Usage place why) h = tt
@@ -420,7 +423,7 @@ words_blame words x w v other h = absurd h
 pub blamed : (sure : Bool) (k : Heard) (words : List (List ℕ)) (w v : World) (r : Result Unit Outcome) → DesyncEnds sure k words w r v → IfSome (command_of words) (λ c. Blames (parts k c) (outcome_of r) w v)
 blamed sure k words w v (Ok u) h = if_any (command_of words) _ (λ c. tt)
 blamed sure k words w v (Err o) (inl h) = if_any (command_of words) _ (λ c. words_blame words (parts k c) w v o h.0)
-blamed sure k words w v (Err o) (inr h) = let b = begun sure k words w v (Err o) h in if_some (command_of words) _ b.0 b.1 ((command_step sure k b.0).fair w v o b.2).1
+blamed sure k words w v (Err o) (inr h) = let b = begun sure k words w v (Err o) h in if_some (command_of words) _ b.0 b.1 ((command_step sure k b.0 b.3).fair w v o b.2).1
 
 -- a store hasn't failed where no count rose and its replies were taken
 store_quiet : (w v : World) → NoFault w v → (s : Location) → RepliesTaken w v s → StoreRose (storage_of w) (storage_of v) s → ⊥
@@ -483,7 +486,7 @@ nothing_failed sure k words w v (Ok u) h n heard taken = tt
 nothing_failed sure k words w v (Err o) (inl h) n heard taken = words_quiet words o h.0
 nothing_failed sure k words w v (Err o) (inr h) n heard taken =
     let b = begun sure k words w v (Err o) h in
-    quiet (parts k b.0) w v o n (quiet_listener k b.0 heard) (subst (λ c. IfSome c (λ c. All (RepliesTaken w v) (parts k c).stores × All (IndexTaken w v) (parts k c).indexes)) b.1 taken) ((command_step sure k b.0).fair w v o b.2).1
+    quiet (parts k b.0) w v o n (quiet_listener k b.0 heard) (subst (λ c. IfSome c (λ c. All (RepliesTaken w v) (parts k c).stores × All (IndexTaken w v) (parts k c).indexes)) b.1 taken) ((command_step sure k b.0 b.3).fair w v o b.2).1
 
 unrefused : (r : Result Command WordsFault) (c : Command) → command_said r ≡ Some c → refusal_in r ≡ None
 unrefused (Ok d) c h = refl
@@ -502,4 +505,4 @@ command_tells words other r h = h
 pub tells_refusal : (sure : Bool) (k : Heard) (words : List (List ℕ)) (w v : World) (r : Result Unit Outcome) → DesyncEnds sure k words w r v → TellsRefusal (usage_refusal words) (outcome_of r)
 tells_refusal sure k words w v (Ok u) h = unrefused (command_line words) h.gave h.did.0
 tells_refusal sure k words w v (Err o) (inl h) = words_tell words o h.0
-tells_refusal sure k words w v (Err o) (inr h) = command_tells words o ((command_step sure k h.gave).fair (between h) v o h.then).0 (unrefused (command_line words) h.gave h.did.0)
+tells_refusal sure k words w v (Err o) (inr h) = command_tells words o ((command_step sure k h.gave h.did.1).fair (between h) v o h.then).0 (unrefused (command_line words) h.gave h.did.0)

@@ -1,3 +1,4 @@
+pub mod Alone
 pub mod AtHand
 pub mod Cached
 pub mod Chopped
@@ -12,6 +13,7 @@ pub mod ExactServing
 pub mod ExactTexts
 pub mod Extracted
 pub mod Fair
+pub mod Grouped
 pub mod Made
 pub mod Named
 pub mod Pruned

@@ -7,7 +7,8 @@ use Rattle.command_outcome.specs.declared.outcome.Outcome.TheVariants as ends
 use Rattle.command_words.specs.Locations.{index_place_of}
 use Rattle.command_words.specs.declared.command.Command.{Command}
 use Rattle.command_words.specs.declared.command.Command.TheVariants as commands
-use Rattle.command_words.specs.declared.command.Location.{Location}
+use Rattle.command_groups.specs.Groups.{stores_of}
+use Rattle.extract_command.specs.declared.stores.Stores.{Stores}
 use Rattle.command_steps.proofs.Cached.{cache_reads}
 use Rattle.command_steps.specs.Cache.{CacheOpened}
 use Rattle.command_steps.specs.Seeds.{IndexesRead, image_name}
@@ -74,7 +75,7 @@ module _ (tmp : List ℕ) where
         | inr set ↦ only_at (Some b) (Some a) at.0 (ap Some set)
       ]
 
-module _ (stores : List Location) (cache : Option (List ℕ)) (i : Into) (l : Listing) (x : Seeds) (w v : Storage) (told : is_some w.disk.files ≡ is_some w.disk.folders) (tells : is_some v.disk.files ≡ is_some w.disk.files) where
+module _ (stores : Stores) (cache : Option (List ℕ)) (i : Into) (l : Listing) (x : Seeds) (w v : Storage) (told : is_some w.disk.files ≡ is_some w.disk.folders) (tells : is_some v.disk.files ≡ is_some w.disk.files) where
   abbrev d : Disk
   d = w.disk
 
@@ -114,7 +115,7 @@ left_same true out w v same = tt
 left_same false out w v same = left_over out w v (only_same (temporary_out out) w.disk.files v.disk.files same)
 
 -- what a refusal of the command leaves
-pub left_out : (sure : NeverFail) (stores : List Location) (cache : Option (List ℕ)) (seeds : List (List ℕ)) (place : Bool) (index out : List ℕ) (w v : World) (o : Outcome) → is_some w.disk.files ≡ is_some w.disk.folders → ExtractEnds sure stores cache seeds place index out w (Err o) v → LeavesOut place out w v
+pub left_out : (sure : NeverFail) (stores : Stores) (cache : Option (List ℕ)) (seeds : List (List ℕ)) (place : Bool) (index out : List ℕ) (w v : World) (o : Outcome) → is_some w.disk.files ≡ is_some w.disk.folders → ExtractEnds sure stores cache seeds place index out w (Err o) v → LeavesOut place out w v
 left_out sure stores cache seeds true index out w v o told h = tt
 left_out sure stores cache seeds false index out w v o told (inl h) = left_same false out w v (got_reads index (index_place_of index) (storage_of w) (Err o) (storage_of v) h.0).files
 left_out sure stores cache seeds false index out w v o told (inr h) = go h.then where
@@ -127,7 +128,7 @@ left_out sure stores cache seeds false index out w v o told (inr h) = go h.then 
   first : h.disk.files ≡ w.disk.files
   first = got.files
 
-  go : (OnDisk (IndexesRead seeds) >>= (λ ls. OnDisk (SourcesOpened stores) >>= (λ u. OnDisk (CacheOpened stores cache) >>= (λ u. OutMade sure false stores cache out h.gave (record { images = map image_name seeds; listings = ls }))))) (world h.disk h.dial h.out) (Err o) v → LeavesOut false out w v
+  go : (OnDisk (IndexesRead seeds) >>= (λ ls. OnDisk (SourcesOpened (stores_of stores.groups)) >>= (λ u. OnDisk (CacheOpened (stores_of stores.groups) cache) >>= (λ u. OutMade sure false stores cache out h.gave (record { images = map image_name seeds; listings = ls }))))) (world h.disk h.dial h.out) (Err o) v → LeavesOut false out w v
   go (inl k) = left_same false out w v (k.0.1.files ∙ first)
   go (inr k) = opened k.then where
     read : k.disk.files ≡ w.disk.files
@@ -136,17 +137,17 @@ left_out sure stores cache seeds false index out w v o told (inr h) = go h.then 
     x : Seeds
     x = record { images = map image_name seeds; listings = k.gave }
 
-    opened : (OnDisk (SourcesOpened stores) >>= (λ u. OnDisk (CacheOpened stores cache) >>= (λ u. OutMade sure false stores cache out h.gave x))) (world k.disk k.dial k.out) (Err o) v → LeavesOut false out w v
+    opened : (OnDisk (SourcesOpened (stores_of stores.groups)) >>= (λ u. OnDisk (CacheOpened (stores_of stores.groups) cache) >>= (λ u. OutMade sure false stores cache out h.gave x))) (world k.disk k.dial k.out) (Err o) v → LeavesOut false out w v
     opened (inl m) = left_same false out w v (m.0.1.files ∙ read)
     opened (inr g) = shelved g.then where
       open_files : g.disk.files ≡ w.disk.files
       open_files = g.did.0.1.files ∙ read
 
-      shelved : (OnDisk (CacheOpened stores cache) >>= (λ u. OutMade sure false stores cache out h.gave x)) (world g.disk g.dial g.out) (Err o) v → LeavesOut false out w v
-      shelved (inl m) = left_same false out w v ((cache_reads stores cache g.disk v.disk (Err o) m.0).files ∙ open_files)
+      shelved : (OnDisk (CacheOpened (stores_of stores.groups) cache) >>= (λ u. OutMade sure false stores cache out h.gave x)) (world g.disk g.dial g.out) (Err o) v → LeavesOut false out w v
+      shelved (inl m) = left_same false out w v ((cache_reads (stores_of stores.groups) cache g.disk v.disk (Err o) m.0).files ∙ open_files)
       shelved (inr m) = made m.then where
         reached : Reads g.disk m.disk
-        reached = cache_reads stores cache g.disk m.disk (Ok tt) m.did.0
+        reached = cache_reads (stores_of stores.groups) cache g.disk m.disk (Ok tt) m.did.0
 
         files : m.disk.files ≡ w.disk.files
         files = reached.files ∙ open_files
@@ -173,11 +174,11 @@ left_out sure stores cache seeds false index out w v o told (inr h) = go h.then 
 -- ---- what the top call says
 
 left_of : (sure : Bool) (k : Heard) (c : Command) (w v : World) (o : Outcome) → is_some w.disk.files ≡ is_some w.disk.folders → CommandEnds sure k c w (Err o) v → LeavesBehind c w v
-left_of sure k (commands.Extract stores seeds cache place workers index target) w v o told h = left_out (never_fail sure k.never_fails) stores cache seeds place index target w v o told h
+left_of sure k (commands.Extract stores retries seeds cache place workers index target) w v o told h = left_out (never_fail sure k.never_fails) (record { groups = stores; retries = retries }) cache seeds place index target w v o told h
 left_of sure k other w v o told h = tt
 
 left_none : (c : Command) (w v : World) → v ≡ w → LeavesBehind c w v
-left_none (commands.Extract stores seeds cache place workers index target) w v same = left_same place target w v (ap (λ u. u.disk.files) same)
+left_none (commands.Extract stores retries seeds cache place workers index target) w v same = left_same place target w v (ap (λ u. u.disk.files) same)
 left_none other w v same = tt
 
 pub left_behind : (sure : Bool) (k : Heard) (words : List (List ℕ)) (w v : World) (r : Result Unit Outcome) → is_some w.disk.files ≡ is_some w.disk.folders → DesyncEnds sure k words w r v → outcome_of r ≢ ends.Done → IfSome (command_of words) (λ c. LeavesBehind c w v)

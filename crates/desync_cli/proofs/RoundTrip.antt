@@ -47,7 +47,7 @@ module _ (one : (b : List ℕ) (l m : Listing) → IsIndexFile b l → IsIndexFi
 
   over : (x y : Heard) (first then : Command) (b m a : Map (List ℕ)) (f g h : Map (Map (List ℕ))) (bc fc mc gc ac hc : Map ℕ) (i j k : DialState) (p q r : Output) → Fits first → Achieves false x first (world (tells b f bc fc) i p) (world (tells m g mc gc) j q) → Achieves false y then (world (tells m g mc gc) j q) (world (tells a h ac hc) k r)
       → RoundTrip (Some first) (Some then) b a
-  over x y (commands.Make store sizes workers digest index image) (commands.Extract stores seeds cache in_place n other out) b m a f g h bc fc mc gc ac hc i j k p q r fits made got = λ same.
+  over x y (commands.Make store sizes workers digest index image) (commands.Extract stores retries seeds cache in_place n other out) b m a f g h bc fc mc gc ac hc i j k p q r fits made got = λ same.
       let Spelled : List ℕ → Listing → Type 0 = IndexSpells (storage (tells m g mc gc) j) (storage (tells a h ac hc) k) in
       let file : IsTrue (is_file index) = ap not fits in
       back b m a digest sizes index image out made.0 Spelled (λ l. spells_file index (storage (tells m g mc gc) j) (storage (tells a h ac hc) k) l file) made.1 (subst (λ i. IsExtracted Spelled a i out) same got)

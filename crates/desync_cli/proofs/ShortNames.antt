@@ -1,18 +1,19 @@
 -- The names that a command of words has, and with them those that outcomes tell, are no longer than the longest word, but
 -- for what stands behind OUT in the name of the temporary file.
-use Rattle.std.proofs.Common.{◌≡◌, ℕ, zero, suc, ◌+◌, ◌≤◌, ◌<◌, ◌==◌, List, [], ◌∷◌, length, map, codes, Bool, true, false, if◌then◌else◌, Option, Some, None, Result, Ok, Err, subst, inl, inr, slice_index_or, arith}
+use Rattle.std.proofs.Common.{◌≡◌, ℕ, zero, suc, ◌+◌, ◌-◌, ◌≤◌, ◌<◌, ◌==◌, List, [], ◌∷◌, ◌++◌, length, map, codes, Bool, true, false, if◌then◌else◌, Option, Some, None, Result, Ok, Err, subst, inl, inr, slice_index_or, arith}
 use Rattle.std.proofs.lemmas.List.{length-append}
-use Rattle.std.specs.List.{list_any}
+use Rattle.std.specs.List.{list_any, onto_first}
 use Rattle.cat_command.specs.Cat.{range_size}
-use Rattle.command_line.specs.CommandLine.{command_by, command_line, command_by_roles as parsed, command_or_help, complete, is_alone, read_location}
+use Rattle.command_line.specs.CommandLine.{command_by, command_line, command_by_roles as parsed, command_or_help, complete, group_of, is_alone, read_location}
 use Rattle.command_line.specs.Judging.{judged, missing_words}
 use Rattle.command_outcome.specs.ErrorLines.{name_in}
 use Rattle.command_outcome.specs.declared.outcome.Outcome.{Outcome}
 use Rattle.command_outcome.specs.declared.outcome.Outcome.TheVariants as ends
 use Rattle.command_worlds.specs.Steps.{outcome_of}
+use Rattle.command_groups.specs.Groups.{stores_of}
 use Rattle.command_steps.specs.Stores.{folder_name}
 use Rattle.command_worlds.specs.Worlds.{World}
-use Rattle.command_words.specs.Locations.{contains_scheme, is_out_of_room, is_plain_http, location_of, server_of, url_location}
+use Rattle.command_words.specs.Locations.{contains_scheme, is_out_of_room, is_plain_http, location_of, parts_of, server_of, url_location}
 use Rattle.command_words.specs.OptionTable.{command_named}
 use Rattle.command_words.specs.Roles.{WordsByRole, by_role, role_number, words_as}
 use Rattle.command_words.specs.declared.command.Command.{Command}
@@ -44,11 +45,11 @@ abbrev HasShort : ℕ → Command → Type 0
 HasShort n (commands.Make store sizes workers digest index image) = (length (folder_name store) ≤ n) × (length index ≤ n) × (length image ≤ n)
 HasShort n (commands.VerifyIndex workers index image) = (length index ≤ n) × (length image ≤ n)
 HasShort n (commands.Chop store workers index image) = (length (folder_name store) ≤ n) × (length index ≤ n) × (length image ≤ n)
-HasShort n (commands.Cache stores cache workers indexes) = AllShort n (map folder_name stores) × (length cache ≤ n) × AllShort n indexes
+HasShort n (commands.Cache stores retries cache workers indexes) = AllShort n (map folder_name (stores_of stores)) × (length cache ≤ n) × AllShort n indexes
 HasShort n (commands.ListChunks index) = length index ≤ n
-HasShort n (commands.Extract stores seeds cache in_place workers index target) = AllShort n (map folder_name stores) × AllShort n seeds × AllShort n (named cache) × (length index ≤ n) × (length (temporary_out target) ≤ n) × (length target ≤ n)
-HasShort n (commands.Cat stores offset size index) = AllShort n (map folder_name stores) × (length index ≤ n)
-HasShort n (commands.Info stores index) = AllShort n (map folder_name stores) × (length index ≤ n)
+HasShort n (commands.Extract stores retries seeds cache in_place workers index target) = AllShort n (map folder_name (stores_of stores)) × AllShort n seeds × AllShort n (named cache) × (length index ≤ n) × (length (temporary_out target) ≤ n) × (length target ≤ n)
+HasShort n (commands.Cat stores retries offset size index) = AllShort n (map folder_name (stores_of stores)) × (length index ≤ n)
+HasShort n (commands.Info stores retries index) = AllShort n (map folder_name (stores_of stores)) × (length index ≤ n)
 HasShort n (commands.Verify store repair workers digest) = length store ≤ n
 HasShort n (commands.Prune store indexes) = (length store ≤ n) × AllShort n indexes
 HasShort n (commands.ChunkServer store host port writable workers digest) = length store ≤ n
@@ -60,14 +61,14 @@ command_short : (n : ℕ) (sure : Bool) (h : Heard) (c : Command) → HasShort n
 command_short n sure h (commands.Make store sizes workers digest index image) f = bound (sizes_judged n sizes) (λ z. bound (on_disk (image_opened n image f.2)) (λ told. bound (on_disk (source_taken n _ store f.0)) (λ held. bound (on_sources (stored n digest z image told store held)) (λ bytes. on_disk (written n index bytes f.1)))))
 command_short n sure h (commands.VerifyIndex workers index image) f = bound (on_sources (index_got n index f.0)) (λ l. bound (on_disk (image_opened n image f.1)) (λ told. on_disk (checked n image l told)))
 command_short n sure h (commands.Chop store workers index image) f = bound (on_sources (index_got n index f.1)) (λ l. bound (on_disk (image_opened n image f.2)) (λ told. bound (on_disk (source_taken n _ store f.0)) (λ held. on_sources (chopped n l image told store held))))
-command_short n sure h (commands.Cache stores cache workers indexes) f = bound (on_disk (opened n stores f.0)) (λ u. bound (on_disk (cache_opened n stores (Some cache) (f.1, tt))) (λ u. on_sources (filled n stores cache workers indexes f.2)))
+command_short n sure h (commands.Cache stores retries cache workers indexes) f = bound (on_disk (opened n (stores_of stores) f.0)) (λ u. bound (on_disk (cache_opened n (stores_of stores) (Some cache) (f.1, tt))) (λ u. on_sources (filled n stores retries cache workers indexes f.2)))
 command_short n sure h (commands.ListChunks index) f = bound (on_sources (index_got n index f)) (λ l. on_out (printed n _))
-command_short n sure h (commands.Extract stores seeds cache in_place workers index target) f = bound (on_sources (index_got n index f.3)) (λ l. bound (on_disk (indexes_read n seeds f.1)) (λ ls. bound (on_disk (opened n stores f.0)) (λ u. bound (on_disk (cache_opened n stores cache (cached cache f.2))) (λ u. out_made n (never_fail sure h.never_fails) in_place stores cache target l _ f.4 f.5)))) where
+command_short n sure h (commands.Extract stores retries seeds cache in_place workers index target) f = bound (on_sources (index_got n index f.3)) (λ l. bound (on_disk (indexes_read n seeds f.1)) (λ ls. bound (on_disk (opened n (stores_of stores) f.0)) (λ u. bound (on_disk (cache_opened n (stores_of stores) cache (cached cache f.2))) (λ u. out_made n (never_fail sure h.never_fails) in_place (record { groups = stores; retries = retries }) cache target l _ f.4 f.5)))) where
   cached : (cache : Option (List ℕ)) → AllShort n (named cache) → AllShort n (elim cache [ None ↦ [] | Some q ↦ q ∷ [] ])
   cached None all = all
   cached (Some q) all = all
-command_short n sure h (commands.Cat stores offset size index) f = bound (on_sources (index_got n index f.1)) (λ l. bound (on_disk (opened n stores f.0)) (λ u. range_put n stores l offset (range_size l offset size)))
-command_short n sure h (commands.Info stores index) f = bound (on_sources (index_got n index f.1)) (λ l. bound (on_sources (counted n stores f.0 l)) (λ k. on_out (printed n _)))
+command_short n sure h (commands.Cat stores retries offset size index) f = bound (on_sources (index_got n index f.1)) (λ l. bound (on_disk (opened n (stores_of stores) f.0)) (λ u. range_put n stores retries l offset (range_size l offset size)))
+command_short n sure h (commands.Info stores retries index) f = bound (on_sources (index_got n index f.1)) (λ l. bound (on_sources (counted n stores retries f.0 l)) (λ k. on_out (printed n _)))
 command_short n sure h (commands.Verify store repair workers digest) f = bound (on_disk (taken n store f)) (λ held. verified n digest store repair held)
 command_short n sure h (commands.Prune store indexes) f = bound (indexes_got n 0 indexes f.1) (λ ls. bound (on_disk (taken n store f.0)) (λ held. on_disk (pruned n _ store held)))
 command_short n sure h (commands.Demo number size workers digest) f = bound (rehearsed n digest number size) (λ g. on_out (printed n _))
@@ -112,9 +113,33 @@ module _ (k : ℕ) where
   place_short : (w : List ℕ) → length w ≤ k → ShortPlace (location_of w)
   place_short w le = either ShortPlace (list_any (λ c. c == 124) w) (Err no.Bad) _ (omega arith) (either ShortPlace (contains_scheme w) _ (Ok (locations.Folder w)) (search url_short) le)
 
-  places_short : (words : List (List ℕ)) → AllShort k words → AllShort (k + 11) (map folder_name (map (λ w. read_location (location_of w)) words))
+  -- a part of a word is no longer than the word
+  parts_short : (w : List ℕ) (n : ℕ) → length w ≤ n → AllShort n (parts_of w)
+  parts_short [] n le = (le, tt)
+  parts_short (c ∷ w) n le = go (c == 124) (parts_of w) (parts_short w (n - 1) (omega (arith, le))) where
+    longer_by_one : (ps : List (List ℕ)) → AllShort (n - 1) ps → AllShort n ps
+    longer_by_one [] all = tt
+    longer_by_one (p ∷ ps) all = (omega (arith, all.0), longer_by_one ps all.1)
+
+    first_longer : (ps : List (List ℕ)) → AllShort (n - 1) ps → AllShort n (onto_first c ps)
+    first_longer [] all = (omega (arith, le), tt)
+    first_longer (p ∷ ps) all = (omega (arith, all.0, le), longer_by_one ps all.1)
+
+    go : (b : Bool) (ps : List (List ℕ)) → AllShort (n - 1) ps → AllShort n (if b then [] ∷ ps else onto_first c ps)
+    go true ps all = (omega arith, longer_by_one ps all)
+    go false ps all = first_longer ps all
+
+  places_short : (parts : List (List ℕ)) → AllShort k parts → AllShort (k + 11) (map folder_name (map (λ w. read_location (location_of w)) parts))
   places_short [] all = tt
-  places_short (w ∷ words) all = (omega (arith, place_short w all.0), places_short words all.1)
+  places_short (w ∷ parts) all = (omega (arith, place_short w all.0), places_short parts all.1)
+
+  both_short : (n : ℕ) (front more : List Location) → AllShort n (map folder_name front) → AllShort n (map folder_name more) → AllShort n (map folder_name (front ++ more))
+  both_short n [] more a b = b
+  both_short n (s ∷ front) more a b = (a.0, both_short n front more a.1 b)
+
+  groups_short : (words : List (List ℕ)) → AllShort k words → AllShort (k + 11) (map folder_name (stores_of (map group_of words)))
+  groups_short [] all = tt
+  groups_short (w ∷ words) all = both_short (k + 11) (group_of w) (stores_of (map group_of words)) (places_short (parts_of w) (parts_short w k all.0)) (groups_short words all.1)
 
   abbrev Said : Result Command WordsFault → Type 0
   Said (Ok c) = HasShort (k + 11) c
@@ -139,13 +164,13 @@ module _ (k : ℕ) where
 
     parsed_short : (kind : CommandKind) → HasShort (k + 11) (parsed kind p)
     parsed_short kinds.Make = (store_short, one role.Operand 0, one role.Operand 1)
-    parsed_short kinds.Extract = (places_short _ (as_role (role.Value option.Store)), longer _ (as_role (role.Value option.Seed)), cache_short _, one role.Operand 0, temporary_short, one role.Operand 1)
+    parsed_short kinds.Extract = (groups_short _ (as_role (role.Value option.Store)), longer _ (as_role (role.Value option.Seed)), cache_short _, one role.Operand 0, temporary_short, one role.Operand 1)
     parsed_short kinds.VerifyIndex = (one role.Operand 0, one role.Operand 1)
     parsed_short kinds.Chop = (store_short, one role.Operand 0, one role.Operand 1)
-    parsed_short kinds.Cache = (places_short _ (as_role (role.Value option.Store)), one (role.Value option.Cache) 0, longer _ (as_role role.Operand))
+    parsed_short kinds.Cache = (groups_short _ (as_role (role.Value option.Store)), one (role.Value option.Cache) 0, longer _ (as_role role.Operand))
     parsed_short kinds.ListChunks = one role.Operand 0
-    parsed_short kinds.Cat = (places_short _ (as_role (role.Value option.Store)), one role.Operand 0)
-    parsed_short kinds.Info = (places_short _ (as_role (role.Value option.Store)), one role.Operand 0)
+    parsed_short kinds.Cat = (groups_short _ (as_role (role.Value option.Store)), one role.Operand 0)
+    parsed_short kinds.Info = (groups_short _ (as_role (role.Value option.Store)), one role.Operand 0)
     parsed_short kinds.Verify = one (role.Value option.Store) 0
     parsed_short kinds.Prune = (one (role.Value option.Store) 0, longer _ (as_role role.Operand))
     parsed_short kinds.ChunkServer = one (role.Value option.Store) 0

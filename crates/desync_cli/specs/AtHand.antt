@@ -1,5 +1,5 @@
 -- An `extract` that needs no server: the chunk of each entry of its index is at hand.
-use Rattle.std.specs.Prelude.{◌≡◌, ◌⊎◌, ◌++◌, ℕ, ◌<◌, ◌≤◌, Bool, true, false, List, map, Option, IfSome, IsSome}
+use Rattle.std.specs.Prelude.{◌≡◌, ◌⊎◌, ◌++◌, ℕ, ◌<◌, ◌≤◌, Bool, true, false, List, length, map, Option, IfSome, IsSome}
 use Rattle.std.specs.Prelude.{IsSomeAnd, IsTrue}
 use Rattle.std.specs.List.{All, AllZip, Any}
 use Rattle.assembler.specs.Assemblies.{RightAlike}
@@ -9,6 +9,7 @@ use Rattle.chunk_store.specs.Giving.{GivesChunk}
 use Rattle.command_outcome.specs.declared.outcome.Outcome.{Outcome}
 use Rattle.command_outcome.specs.declared.outcome.Outcome.TheVariants as ends
 use Rattle.command_indexes.specs.Places.{is_file}
+use Rattle.command_groups.specs.Groups.{stores_of}
 use Rattle.command_steps.specs.InputFiles.{IsListed}
 use Rattle.command_steps.specs.Seeds.{image_name}
 use Rattle.command_steps.specs.Sources.{IsThere, location_files}
@@ -40,21 +41,22 @@ abbrev pub ListsOneSize : Listing → Type 0
 ListsOneSize l =
     (i j : ℕ) → i < count_of l → j < count_of l → id_of l i ≡ id_of l j → size_of l i ≡ size_of l j
 
--- INDEX, which is no URL, and the indexes of the seeds are index files, the folders are there, and each entry of INDEX
--- is at hand. Where there is a cache, INDEX lists each id with one size
-pub record NeedsNoServer (b : Map (List ℕ)) (n : Map (Map (List ℕ))) (stores : List Location) (cache : Option (List ℕ))
-    (seeds : List (List ℕ)) (out : Into) (index : List ℕ) : Type 0 where
+-- INDEX, which is no URL, and the indexes of the seeds are index files, each group is one store, the folders are there,
+-- and each entry of INDEX is at hand. Where there is a cache, INDEX lists each id with one size
+pub record NeedsNoServer (b : Map (List ℕ)) (n : Map (Map (List ℕ))) (groups : List (List Location))
+    (cache : Option (List ℕ)) (seeds : List (List ℕ)) (out : Into) (index : List ℕ) : Type 0 where
   pub file : IsTrue (is_file index)
   pub listing : Listing
   pub listed : IsListed b index listing
   pub listings : List Listing
   pub seeds_listed : AllZip (λ q l. IsListed b q l) seeds listings
   pub few : items_of listings ≤ seed_item_limit
-  pub there : All (IsThere n) stores
+  pub alone : All (λ (g : List Location). length g ≡ 1) groups
+  pub there : All (IsThere n) (stores_of groups)
   pub cache_there : IfSome cache (λ c. IsSome (n c))
   pub one_size : IsSome cache → ListsOneSize listing
   pub at_hand : (i : ℕ) → i < count_of listing → IsAtHand b n out listing
-      (record { images = map image_name seeds; listings = listings }) (near cache stores) i
+      (record { images = map image_name seeds; listings = listings }) (near cache (stores_of groups)) i
 
 -- the file that becomes the image
 abbrev pub into : Bool → List ℕ → Into
@@ -63,7 +65,7 @@ into false out = beside out
 
 -- an `extract` that needs no server is done, unless there was no memory
 abbrev pub EndsAtHand : Command → Disk → Outcome → Type 0
-EndsAtHand (commands.Extract stores seeds cache in_place workers index target) d o =
+EndsAtHand (commands.Extract stores retries seeds cache in_place workers index target) d o =
     IfSome d.files (λ b. IfSome d.folders (λ n. NeedsNoServer b n stores cache seeds (into in_place target) index
     → (o ≡ ends.Done) ⊎ (o ≡ ends.Memory)))
 EndsAtHand other d o = Unit {0}

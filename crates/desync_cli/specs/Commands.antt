@@ -1,6 +1,7 @@
 -- What the words are to do, and what each command does.
 use Rattle.std.specs.Prelude.{◌≡◌, ◌≢◌, ◌&&◌, ℕ, Bool, true, false, not, is_some, if◌then◌else◌}
-use Rattle.std.specs.Prelude.{List, [], ◌∷◌, Option, Some, None, IfSome, Result, Ok, Err}
+use Rattle.std.specs.Prelude.{List, [], ◌∷◌, length, Option, Some, None, IfSome, Result, Ok, Err}
+use Rattle.std.specs.List.{All}
 use Rattle.caibx_codec.specs.Listing.{Listing}
 use Rattle.command_help.specs.Help.{help_text}
 use Rattle.command_help.specs.declared.help.Topic.TheVariants as topics
@@ -10,6 +11,7 @@ use Rattle.command_outcome.specs.declared.outcome.Outcome.TheVariants as ends
 use Rattle.command_words.specs.Limits.{Fits}
 use Rattle.command_words.specs.declared.command.Command.{Command}
 use Rattle.command_words.specs.declared.command.Command.TheVariants as commands
+use Rattle.command_words.specs.declared.command.Location.{Location}
 use Rattle.command_words.specs.declared.command.Location.TheVariants as locations
 use Rattle.command_words.specs.declared.usage.UsageWhy.{UsageWhy}
 use Rattle.command_words.specs.declared.usage.WordsFault.{WordsFault}
@@ -32,6 +34,7 @@ use Rattle.command_indexes.specs.Places.{are_files, is_file}
 use Rattle.command_indexes.specs.Spelled.{IndexSpells}
 use Rattle.command_indexes.specs.Blames.{Parts, Spares, unheard}
 use Rattle.command_worlds.specs.Printing.{Printed}
+use Rattle.command_groups.specs.Groups.{stores_of}
 use Rattle.command_steps.specs.Sources.{storage_of}
 use Rattle.command_worlds.specs.Steps.{◌>>=◌}
 use Rattle.command_steps.specs.Stores.{are_folders, is_folder}
@@ -50,12 +53,13 @@ abbrev pub CommandEnds : Bool → Heard → Command → Step World Unit
 CommandEnds sure h (commands.Make store sizes workers digest index image) = MakeEnds store digest sizes index image
 CommandEnds sure h (commands.VerifyIndex workers index image) = VerifyIndexEnds index image
 CommandEnds sure h (commands.Chop store workers index image) = ChopEnds store index image
-CommandEnds sure h (commands.Cache stores cache workers indexes) = CacheEnds stores cache workers indexes
+CommandEnds sure h (commands.Cache stores retries cache workers indexes) = CacheEnds stores retries cache workers indexes
 CommandEnds sure h (commands.ListChunks index) = ListChunksEnds index
-CommandEnds sure h (commands.Extract stores seeds cache in_place workers index target) =
-    ExtractEnds (never_fail sure h.never_fails) stores cache seeds in_place index target
-CommandEnds sure h (commands.Cat stores offset length index) = CatEnds stores offset length index
-CommandEnds sure h (commands.Info stores index) = InfoEnds stores index
+CommandEnds sure h (commands.Extract stores retries seeds cache in_place workers index target) =
+    ExtractEnds (never_fail sure h.never_fails) (record { groups = stores; retries = retries }) cache seeds in_place
+    index target
+CommandEnds sure h (commands.Cat stores retries offset length index) = CatEnds stores retries offset length index
+CommandEnds sure h (commands.Info stores retries index) = InfoEnds stores retries index
 CommandEnds sure h (commands.Verify store repair workers digest) = VerifyEnds digest store repair
 CommandEnds sure h (commands.Prune store indexes) = PruneEnds store indexes
 CommandEnds sure h (commands.Demo number size workers digest) = DemoEnds digest number size
@@ -66,6 +70,15 @@ CommandEnds sure h (commands.ChunkServer store host port writable workers digest
     ChunkServerEnds digest h store writable workers
 CommandEnds sure h (commands.IndexServer store host port writable) = IndexServerEnds h store writable
 
+-- each group of stores is one store
+abbrev pub HasNoGroups : Command → Type 0
+HasNoGroups (commands.Cache stores retries cache workers indexes) = All (λ (g : List Location). length g ≡ 1) stores
+HasNoGroups (commands.Extract stores retries seeds cache in_place workers index target) =
+    All (λ (g : List Location). length g ≡ 1) stores
+HasNoGroups (commands.Cat stores retries offset length index) = All (λ (g : List Location). length g ≡ 1) stores
+HasNoGroups (commands.Info stores retries index) = All (λ (g : List Location). length g ≡ 1) stores
+HasNoGroups other = Unit {0}
+
 -- what no outcome of it changes
 abbrev pub spares : Command → Spares
 spares (commands.Make store sizes workers digest index image) = record
@@ -74,15 +87,15 @@ spares (commands.VerifyIndex workers index image) = record
     { files = true; folders = true; dial = is_file index; out = true }
 spares (commands.Chop store workers index image) = record
     { files = true; folders = not (is_folder store); dial = is_folder store && is_file index; out = true }
-spares (commands.Cache stores cache workers indexes) = record
-    { files = true; folders = false; dial = are_folders stores && are_files indexes; out = true }
-spares (commands.Extract stores seeds cache in_place workers index target) = record
-    { files = false; folders = not (is_some cache); dial = are_folders stores && is_file index; out = true }
-spares (commands.Cat stores offset length index) = record
-    { files = true; folders = true; dial = are_folders stores && is_file index; out = false }
+spares (commands.Cache stores retries cache workers indexes) = record
+    { files = true; folders = false; dial = are_folders (stores_of stores) && are_files indexes; out = true }
+spares (commands.Extract stores retries seeds cache in_place workers index target) = record
+    { files = false; folders = not (is_some cache); dial = are_folders (stores_of stores) && is_file index; out = true }
+spares (commands.Cat stores retries offset length index) = record
+    { files = true; folders = true; dial = are_folders (stores_of stores) && is_file index; out = false }
 spares (commands.ListChunks index) = record { files = true; folders = true; dial = is_file index; out = false }
-spares (commands.Info stores index) = record
-    { files = true; folders = true; dial = are_folders stores && is_file index; out = false }
+spares (commands.Info stores retries index) = record
+    { files = true; folders = true; dial = are_folders (stores_of stores) && is_file index; out = false }
 spares (commands.Verify store repair workers digest) = record
     { files = true; folders = false; dial = true; out = false }
 spares (commands.Prune store indexes) = record
@@ -101,22 +114,22 @@ parts h (commands.VerifyIndex workers index image) = record
     { image = image; indexes = index ∷ []; stores = []; target = []; cache = []; listener = unheard }
 parts h (commands.Chop store workers index image) = record
     { image = image; indexes = index ∷ []; stores = store ∷ []; target = []; cache = []; listener = unheard }
-parts h (commands.Cache stores cache workers indexes) = record
-    { image = []; indexes = indexes; stores = stores; target = []; cache = cache; listener = unheard }
+parts h (commands.Cache stores retries cache workers indexes) = record
+    { image = []; indexes = indexes; stores = stores_of stores; target = []; cache = cache; listener = unheard }
 parts h (commands.ListChunks index) = record
     { image = []; indexes = index ∷ []; stores = []; target = []; cache = []; listener = unheard }
-parts h (commands.Extract stores seeds cache in_place workers index target) = record {
+parts h (commands.Extract stores retries seeds cache in_place workers index target) = record {
   image = [];
   indexes = index ∷ [];
-  stores = stores;
+  stores = stores_of stores;
   target = if in_place then target else temporary_out target;
   cache = [];
   listener = unheard;
 }
-parts h (commands.Cat stores offset length index) = record
-    { image = []; indexes = index ∷ []; stores = stores; target = []; cache = []; listener = unheard }
-parts h (commands.Info stores index) = record
-    { image = []; indexes = index ∷ []; stores = stores; target = []; cache = []; listener = unheard }
+parts h (commands.Cat stores retries offset length index) = record
+    { image = []; indexes = index ∷ []; stores = stores_of stores; target = []; cache = []; listener = unheard }
+parts h (commands.Info stores retries index) = record
+    { image = []; indexes = index ∷ []; stores = stores_of stores; target = []; cache = []; listener = unheard }
 parts h (commands.Verify store repair workers digest) = record
     { image = []; indexes = []; stores = locations.Folder store ∷ []; target = []; cache = []; listener = unheard }
 parts h (commands.Prune store indexes) = record
@@ -138,10 +151,10 @@ Achieves sure h (commands.VerifyIndex workers index image) w v =
 Achieves sure h (commands.Chop store workers index image) w v = IfSome w.disk.files (λ b. (l : Listing)
     × IsChopped (IndexSpells (storage_of w) (storage_of v)) b index image l
     × StoreHas (storage_of w) (storage_of v) store l)
-Achieves sure h (commands.Cache stores cache workers indexes) w v =
+Achieves sure h (commands.Cache stores retries cache workers indexes) w v =
     IfSome w.disk.folders (λ f. IfSome v.disk.folders (λ g.
     IsCached (IndexSpells (storage_of w) (storage_of v)) f g cache indexes))
-Achieves sure h (commands.Extract stores seeds cache in_place workers index target) w v =
+Achieves sure h (commands.Extract stores retries seeds cache in_place workers index target) w v =
     IfSome v.disk.files (λ a. IsExtracted (IndexSpells (storage_of w) (storage_of v)) a index target)
 Achieves sure h (commands.Verify store repair workers digest) w v =
     IfSome w.disk.folders (λ f. IfSome v.disk.folders (λ g.
@@ -159,7 +172,8 @@ LeavesOut false out w v = IfSome w.disk.files (λ b. IfSome v.disk.files (λ a.
 
 -- what a refusal leaves of it, beside how it ends
 abbrev pub LeavesBehind : Command → World → World → Type 0
-LeavesBehind (commands.Extract stores seeds cache in_place workers index target) w v = LeavesOut in_place target w v
+LeavesBehind (commands.Extract stores retries seeds cache in_place workers index target) w v =
+    LeavesOut in_place target w v
 LeavesBehind other w v = Unit {0}
 
 -- ---- the words

@@ -21,6 +21,7 @@ use Rattle.command_outcome.specs.declared.outcome.Outcome.{Outcome}
 use Rattle.command_outcome.specs.declared.outcome.Outcome.TheVariants as ends
 use Rattle.command_indexes.specs.Places.{are_files}
 use Rattle.command_indexes.specs.Blames.{Parts}
+use Rattle.command_groups.specs.Groups.{stores_of}
 use Rattle.command_steps.specs.InputFiles.{IsListed}
 use Rattle.command_steps.specs.Seeds.{image_name}
 use Rattle.command_steps.specs.Stores.{are_folders, folder_name}
@@ -303,26 +304,26 @@ EndingOf h (commands.VerifyIndex workers index image) = do
   l ← index_at index
   t ← image_at image
   λ x o y. IsCompared l t o × (y ≡ x)
-EndingOf h (commands.Cache stores cache workers indexes) = do
-  fs ← folders_at stores
+EndingOf h (commands.Cache stores retries cache workers indexes) = do
+  fs ← folders_at (stores_of stores)
   f ← folder_at cache
   Caches (map chunks fs) cache indexes f
-EndingOf h (commands.Extract stores seeds cache in_place workers index target) = do
+EndingOf h (commands.Extract stores retries seeds cache in_place workers index target) = do
   l ← index_at index
   ls ← indexes_at 0 seeds
-  fs ← folders_at stores
+  fs ← folders_at (stores_of stores)
   cs ← folders_at (map locations.Folder (folder_of cache))
   Extracts l (record { images = map image_name seeds; listings = ls }) fs cs cache in_place target
 EndingOf h (commands.ListChunks index) = do
   l ← index_at index
   PrintsText (text_of_chunks l)
-EndingOf h (commands.Cat stores offset length index) = do
+EndingOf h (commands.Cat stores retries offset length index) = do
   l ← index_at index
-  fs ← folders_at stores
+  fs ← folders_at (stores_of stores)
   PrintsRange l offset (range_size l offset length) (map chunks fs)
-EndingOf h (commands.Info stores index) = do
+EndingOf h (commands.Info stores retries index) = do
   l ← index_at index
-  fs ← folders_at stores
+  fs ← folders_at (stores_of stores)
   PrintsText (text_of_info l (in_stores l (map chunks fs)))
 EndingOf h (commands.Verify store repair workers digest) = do
   f ← folder_at store

@@ -24,7 +24,7 @@ pub record ComesBack (before after : Map (List ℕ)) (image out : List ℕ) : Ty
 -- so it is where the first command is a `make` and the second an `extract` with the same INDEX
 abbrev pub RoundTrip : Option Command → Option Command → Map (List ℕ) → Map (List ℕ) → Type 0
 RoundTrip (Some (commands.Make store sizes workers digest index image))
-    (Some (commands.Extract stores seeds cache in_place n other out)) before after =
+    (Some (commands.Extract stores retries seeds cache in_place n other out)) before after =
     other ≡ index → ComesBack before after image out
 RoundTrip first then before after = Unit {0}
 

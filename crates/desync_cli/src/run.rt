@@ -9,7 +9,7 @@ ghost use Rattle.command_words.specs.declared.command.Command.{Command};
 ghost use Rattle.desync_cli.specs.AtHand.{EndsAtHand};
 ghost use Rattle.desync_cli.specs.Unfailed.{IndexTaken, NothingFailed, RepliesTaken};
 ghost use Rattle.desync_cli.specs.Commands.{Achieves, DesyncEnds, CommandEnds, TellsRefusal, command_of, listens};
-ghost use Rattle.desync_cli.specs.Commands.{parts};
+ghost use Rattle.desync_cli.specs.Commands.{HasNoGroups, parts};
 ghost use Rattle.desync_cli.specs.Commands.{LeavesBehind, usage_refusal, spares};
 ghost use Rattle.desync_cli.specs.Contents.{Contents};
 ghost use Rattle.desync_cli.specs.Exact.{IsExact, IsFaultless};
@@ -51,6 +51,7 @@ use store_commands::verify_index::check_image;
 
 // Does the command.
 #[rattlefmt::skip]
+#[tactic(auto, using(crate::proofs::Grouped::are_groups))]
 fn perform<R: Threads + Wait + Sync, F: ImageFiles, D: Dial + Send, L: Listen, O: Sink>(
     rt: &R,
     alloc: Global,
@@ -80,35 +81,21 @@ where
             make(rt, alloc, files, dial, Making { store, sizes, workers, digest, index, image }),
         Command::VerifyIndex { workers, index, image } => check_image(rt, alloc, files, dial, index, image, workers),
         Command::ListChunks { index } => print_chunks(alloc, files, dial, out, index),
-        Command::Extract { stores, seeds, cache, in_place, workers, index, target } => {
+        Command::Extract { stores, retries, seeds, cache, in_place, workers, index, target } => {
             let workers = workers as usize;
-            extract(rt, alloc, files, dial, Extraction { stores, cache, seeds, in_place, workers, index, target })
+            let words = Extraction { stores, retries, cache, seeds, in_place, workers, index, target };
+            extract(rt, alloc, files, dial, words)
         }
-        Command::Cat {
-            stores,
-            offset,
-            length,
-            index,
-        } => cat(
-            alloc,
-            files,
-            dial,
-            out,
-            CatWords {
-                stores,
-                offset,
-                length,
-                index,
-            },
-        ),
-        Command::Info { stores, index } => print_info(alloc, files, dial, out, stores, index),
+        Command::Cat { stores, retries, offset, length, index } =>
+            cat(alloc, files, dial, out, CatWords { stores, retries, offset, length, index }),
+        Command::Info { stores, retries, index } => print_info(alloc, files, dial, out, stores, retries, index),
         Command::Help => help(out, Topic::All),
         Command::Version => help(out, Topic::Version),
         Command::HelpOn(kind) => help(out, Topic::Command(kind)),
         Command::Chop { store, workers, index, image } =>
             chop_into_store(rt, alloc, files, dial, ChopWords { store, workers, index, image }),
-        Command::Cache { stores, cache, workers, indexes } =>
-            fill_cache(rt, alloc, files, dial, CacheWords { stores, cache, workers, indexes }),
+        Command::Cache { stores, retries, cache, workers, indexes } =>
+            fill_cache(rt, alloc, files, dial, CacheWords { stores, retries, cache, workers, indexes }),
         Command::Verify { store, repair, workers, digest } =>
             verify(rt, alloc, files, out, store, Verification { kind: digest, repair, workers }),
         Command::Prune { store, indexes } => prune_folder(alloc, files, dial, store, indexes),
@@ -230,9 +217,9 @@ where
     ensures at_hand { DiskQuiet (F.disk files.old) (F.disk files.new) → IfSome (command_of (map string_bytes words.now))
         (λ c. EndsAtHand c (F.disk files.old) result.outcome) }
 
-    // Where nothing fails, the outcome and what stands afterwards are exactly those of the command, unless there was no
-    // memory.
-    ensures exactly { IfSome (command_of (map string_bytes words.now)) (λ c. (x : Contents) → IsFaultless
+    // Where nothing fails and each group is one store, the outcome and what stands afterwards are exactly those of the
+    // command, unless there was no memory.
+    ensures exactly { IfSome (command_of (map string_bytes words.now)) (λ c. HasNoGroups c → (x : Contents) → IsFaultless
         (parts (heard F.Folder.never_fails (L.state listen.old) (L.state listen.new)) c)
         (world (F.disk files.old) (D.state dial.old) (O.output out.old))
         (world (F.disk files.new) (D.state dial.new) (O.output out.new)) x

@@ -3,7 +3,7 @@
 use crate::compare::{ok, same};
 use chunk_store::id::DigestKind;
 use command_line::read_words;
-use command_words::command::{Command, Location};
+use command_words::command::{Command, Groups, Location};
 use command_words::usage::WordsFault;
 use dsy_base::name::Name;
 use std::alloc::{AllocError, Global};
@@ -57,7 +57,35 @@ extract -s '' i o -> 2 Empty
 extract -s st --seed .caibx i o -> 4 BadSeed
 extract -s st --seed x i o -> 4 BadSeed
 extract -s st --seed '' i o -> 4 Empty
-extract -s a|b i o -> 2 BadLocation
+make -s a|b i o -> 2 BadLocation
+chop -s a|b i o -> 2 BadLocation
+verify -s a|b -> 2 BadLocation
+prune -s a|b -y i -> 2 BadLocation
+index-server -s a|b -l h:1 -> 2 BadLocation
+extract -s x| i o -> 2 Empty
+extract -s |x i o -> 2 Empty
+cat -s a||b i -> 2 Empty
+cache -s | -c c i -> 2 Empty
+info -s https://h/| i -> 2 Empty
+info -s a|https://h/ i -> 2 BadLocation
+extract -s http://h/|http://h/?q i o -> 2 BadLocation
+extract -s a|b|c|d|e|f|g|h|i|j|k|l|m|n|o|p|q i o -> 2 TooMany
+extract -s a|b|c|d|e|f|g|h -s i|j|k|l|m|n|o|p|q i o -> 4 TooMany
+cat -s a|b|c|d|e|f|g|h|i|j|k|l|m|n|o|p -s q i -> 4 TooMany
+info -s |||||||||||||||| i -> 2 TooMany
+extract -e 17 -s st i o -> 2 BadNumber
+cat -e -1 -s st i -> 2 BadNumber
+cache -s st -c c -e '' i -> 6 BadNumber
+info --error-retry 01 i -> 2 BadNumber
+extract -s st -e 0 --error-retry 1 i o -> 5 TooMany
+info i -e -> 3 NoValue
+make -e 1 -s st i o -> 1 UnknownOption
+chop -e 1 -s st i o -> 1 UnknownOption
+verify -s st --error-retry 1 -> 3 UnknownOption
+prune -s st -y -e 1 i -> 4 UnknownOption
+list-chunks -e 1 i -> 1 UnknownOption
+index-server -s st -l h:1 -e 1 -> 5 UnknownOption
+demo -e 1 1 1 -> 1 UnknownOption
 extract -s -- -q o -> 3 UnknownOption
 cache -s st a -> 4 MissingOption
 verify -s http://h/ -> 2 NeedsFolder
@@ -69,6 +97,8 @@ make -s http://u@h/ a b -> 2 BadLocation
 make -s http://h/#f a b -> 2 BadLocation
 make -s http://h:x/ a b -> 2 BadLocation
 chunk-server -s st -> 3 MissingOption
+chunk-server -s a|b -l h:1 -> 2 BadLocation
+chunk-server -e 1 -s st -l h:1 -> 1 UnknownOption
 chunk-server -s st -l h:0 -> 4 BadListen
 chunk-server -s st -l h:65536 -> 4 BadListen
 chunk-server -s st -l h -> 4 BadListen
@@ -223,19 +253,31 @@ fn words_of_make_are_read(rt: HostRuntime) {
     make_has(&rt, alloc, "make -s -k -- -n --", (usual, 10), "-n", "--");
 }
 
-// The stores are the folder "/srv/a" and a server.
-fn are_a_folder_and_a_server(rt: &impl Abort, stores: &[Location]) {
-    match stores {
-        [
-            Location::Folder(folder),
-            Location::Http { host, port, prefix },
-        ] => {
-            same(rt, folder.as_str(), "/srv/a");
+// It is the folder "/srv/a".
+fn is_the_folder(rt: &impl Abort, store: &Location) {
+    match store {
+        Location::Folder(folder) => same(rt, folder.as_str(), "/srv/a"),
+        Location::Http { .. } => rt.panic("a server"),
+    }
+}
+
+// It is the server at this port of "localhost".
+fn is_a_server(rt: &impl Abort, store: &Location, at: u16) {
+    match store {
+        Location::Folder(_) => rt.panic("a folder"),
+        Location::Http { host, port, prefix } => {
             same(rt, host.as_str(), "localhost");
-            same(rt, *port, 8080);
+            same(rt, *port, at);
             same(rt, prefix.as_str(), "");
         }
-        _ => rt.panic("other stores"),
+    }
+}
+
+// There are so many stores in each group.
+fn have_sizes(rt: &impl Abort, groups: &Groups, sizes: &[usize]) {
+    same(rt, groups.as_slice().len(), sizes.len());
+    for (group, size) in groups.as_slice().iter().zip(sizes) {
+        same(rt, group.as_slice().len(), *size);
     }
 }
 
@@ -252,8 +294,11 @@ fn words_of_extract_are_read(rt: HostRuntime) {
     let line = "extract -s /srv/a -s http://localhost:8080/ -c /var/cache/d \
         --seed old.img.caibx -n 4 new.img.caibx new.img";
     match read_words(rt.alloc(), &words_of(&rt, rt.alloc(), line)) {
-        Ok(Command::Extract { stores, seeds, cache, in_place, workers, index, target }) => {
-            are_a_folder_and_a_server(&rt, stores.as_slice());
+        Ok(Command::Extract { stores, retries, seeds, cache, in_place, workers, index, target }) => {
+            have_sizes(&rt, &stores, &[1, 1]);
+            is_the_folder(&rt, &stores.as_slice()[0].as_slice()[0]);
+            is_a_server(&rt, &stores.as_slice()[1].as_slice()[0], 8080);
+            same(&rt, retries, 0);
             is_one_name(&rt, seeds.as_slice(), "old.img.caibx");
             same(&rt, cache.expect(&rt, "a cache").as_str(), "/var/cache/d");
             same(&rt, in_place, false);
@@ -263,6 +308,64 @@ fn words_of_extract_are_read(rt: HostRuntime) {
         }
         _ => rt.panic("refused"),
     }
+}
+
+#[test]
+#[rattlefmt::skip]
+fn groups_of_stores_are_read(rt: HostRuntime) {
+    let line = "cache -s http://localhost:8080/|/srv/a|http://localhost/ -c near -s x --error-retry 16 a.caibx";
+    match read_words(rt.alloc(), &words_of(&rt, rt.alloc(), line)) {
+        Ok(Command::Cache { stores, retries, cache, indexes, .. }) => {
+            have_sizes(&rt, &stores, &[3, 1]);
+            let group = stores.as_slice()[0].as_slice();
+            is_a_server(&rt, &group[0], 8080);
+            is_the_folder(&rt, &group[1]);
+            is_a_server(&rt, &group[2], 80);
+            same(&rt, retries, 16);
+            same(&rt, cache.as_str(), "near");
+            is_one_name(&rt, indexes.as_slice(), "a.caibx");
+        }
+        _ => rt.panic("refused"),
+    }
+}
+
+// `info` with these stores.
+fn info_has(rt: &impl Abort, alloc: Global, line: &str, sizes: &[usize], times: u32) {
+    match read_words(alloc, &words_of(rt, alloc, line)) {
+        Ok(
+            Command::Info {
+                stores,
+                retries,
+                ..
+            },
+        ) => {
+            have_sizes(rt, &stores, sizes);
+            same(rt, retries, times);
+        }
+        _ => rt.panic("refused"),
+    }
+}
+
+#[test]
+fn sixteen_stores_in_groups_are_the_most(rt: HostRuntime) {
+    let alloc = rt.alloc();
+    info_has(&rt, alloc, "info i", &[], 0);
+    info_has(&rt, alloc, "info -e 2 i", &[], 2);
+    info_has(&rt, alloc, "info -s a|b -e 0 -s c i", &[2, 1], 0);
+    info_has(
+        &rt,
+        alloc,
+        "info -s a|b|c|d|e|f|g|h|i|j|k|l|m|n|o|p i",
+        &[16],
+        0,
+    );
+    info_has(
+        &rt,
+        alloc,
+        "info -s a|b|c|d|e|f|g -s a -s a|b|c|d|e|f|g|h i",
+        &[7, 1, 8],
+        0,
+    );
 }
 
 #[test]
@@ -298,12 +401,14 @@ fn cat_has(
         Ok(
             Command::Cat {
                 stores,
+                retries,
                 offset,
                 length,
                 index,
             },
         ) => {
-            same(rt, stores.as_slice().len(), 1);
+            have_sizes(rt, &stores, &[1]);
+            same(rt, retries, 0);
             same(rt, (offset, length), range);
             same(rt, index.as_str(), index_name);
         }

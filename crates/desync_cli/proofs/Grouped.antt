@@ -1,0 +1,114 @@
+-- Stores in groups: how many they are, which of them failed, and groups of one store each.
+use Rattle.std.proofs.Common.{◌≡◌, ◌++◌, ◌+◌, ◌<◌, ◌≤◌, ℕ, zero, suc, IsTrue, List, [], ◌∷◌, Option, length, map, sum_by, take, refl, sym, subst, ap, ap₂, ◌∙◌, inl, inr, arith}
+use Rattle.std.specs.List.{All}
+use Rattle.std.proofs.lemmas.Bool.{cases_lt}
+use Rattle.std.proofs.lemmas.List.{length-append, map-append}
+use Rattle.std.proofs.lemmas.List.Elements.{All-head, All-tail}
+use Rattle.std.proofs.lemmas.List.Sums.{sum_by-cons}
+use Rattle.chunk_store.specs.Said.{Said}
+use Rattle.command_groups.specs.Groups.{AreGroups, first_store, group_files, stores_of}
+use Rattle.command_groups.specs.Lacking.{FailsFirstIn, GroupFailsFirst, GroupRose, GroupsLack, HaveLackedIn, RoseBy, group_said}
+use Rattle.command_groups.specs.Numbers.{IsNumbered}
+use Rattle.command_steps.specs.Sources.{Storage, StoreRose, location_files, store_at}
+use Rattle.command_steps.specs.Stores.{are_folders}
+use Rattle.command_worlds.specs.Worlds.{FolderRose}
+use Rattle.command_words.specs.declared.command.Location.{Location}
+use Rattle.command_words.specs.declared.command.Location.TheVariants as locations
+use Rattle.command_words.specs.Limits.{AreFewStores}
+use Rattle.dsy_base.specs.Counts.{Rose, raised}
+use Rattle.dsy_base.specs.Maps.{Map}
+use Rattle.store_chain.specs.Refusals.{Lacks}
+use Rattle.store_chain.specs.declared.query.Query.{Query}
+use Rattle.store_chain.specs.declared.refused.Refused.{Refused}
+use Rattle.store_chain.specs.declared.refused.Refused.TheVariants as refused
+
+-- ---- how many they are
+
+stores_counted : (groups : List (List Location)) → length (stores_of groups) ≡ sum_by length groups
+stores_counted [] = refl
+stores_counted (g ∷ groups) = length-append g (stores_of groups) ∙ ap (λ n. length g + n) (stores_counted groups) ∙ sym (sum_by-cons length g groups)
+
+-- the words of a command name groups
+pub are_groups : (groups : List (List Location)) (retries : ℕ) → 1 ≤ length groups → AreFewStores groups retries → AreGroups groups retries
+are_groups groups retries some few = record { some = some; each = few.0; few = omega (arith, few.1, stores_counted groups); again = few.2 }
+
+-- ---- the first store of a group that failed
+
+abbrev pub HaveStores : List (List Location) → Type 0
+HaveStores groups = All (λ (g : List Location). 1 ≤ length g) groups
+
+rose_by : (a b n : ℕ) → raised a (n + 1) ≤ b → Rose a b
+rose_by a b n le = elim (cases_lt a b) [ inl more ↦ inl more | inr other ↦ inr (omega (arith, le, other)) ]
+
+pub store_rose : (n : ℕ) (w v : Storage) (s : Location) → RoseBy (n + 1) w v s → StoreRose w v s
+store_rose n w v (locations.Folder q) h = rose_by _ _ n h
+store_rose n w v (locations.Http host port prefix) (inl h) = inl (rose_by _ _ n h)
+store_rose n w v (locations.Http host port prefix) (inr bad) = inr bad
+
+group_rose : (e : ℕ) (w v : Storage) (g rest : List Location) → 1 ≤ length g → GroupRose e w v g → StoreRose w v (store_at (g ++ rest) 0)
+group_rose e w v [] rest some h = absurd (omega (arith, some))
+group_rose e w v (s ∷ g) rest some h = store_rose e w v s (All-head (RoseBy (e + 1) w v) s g h)
+
+later_at : (g rest : List Location) (k : ℕ) → store_at (g ++ rest) (length g + k) ≡ store_at rest k
+later_at [] rest k = refl
+later_at (s ∷ g) rest k = later_at g rest k
+
+first_rose : (lacks : Said → Type 0) (e : ℕ) (w v : Storage) (k : ℕ) (groups : List (List Location)) → HaveStores groups → GroupFailsFirst lacks e w v k groups → StoreRose w v (store_at (stores_of groups) (first_store groups k))
+first_rose lacks e w v k [] some h = absurd h
+first_rose lacks e w v zero (g ∷ groups) some h = group_rose e w v g (stores_of groups) (All-head (λ (g : List Location). 1 ≤ length g) g groups some) h.0
+first_rose lacks e w v (suc k) (g ∷ groups) some h =
+    let rest = first_rose lacks e w v k groups (All-tail (λ (g : List Location). 1 ≤ length g) g groups some) h.1 in
+    let at = ap (store_at (g ++ stores_of groups)) (length-append g (stores_of (take k groups))) ∙ later_at g (stores_of groups) (first_store groups k) in
+    subst (StoreRose w v) (sym at) rest
+
+-- the store that is named has failed
+pub group_failed : (lacks : Said → Type 0) (e : ℕ) (w v : Storage) (s : ℕ) (groups : List (List Location)) → HaveStores groups → FailsFirstIn lacks e w v s groups → StoreRose w v (store_at (stores_of groups) s)
+group_failed lacks e w v s groups some (k, is, h) = subst (λ n. StoreRose w v (store_at (stores_of groups) n)) (sym is) (first_rose lacks e w v k groups some h)
+
+same_store : (s n : ℕ) → refused.StoreFault s ≡ refused.StoreFault n → s ≡ n
+same_store s n e = cc
+
+fault_named : (e : ℕ) (c : Query) (w v : Storage) (s : ℕ) (groups : List (List Location)) (r : Refused) → IsNumbered groups r (refused.StoreFault s) → GroupsLack e c w v groups r → FailsFirstIn (Lacks c) e w v s groups
+fault_named e c w v s groups refused.Missing is h = absurd cc
+fault_named e c w v s groups (refused.Damaged k x) (t, is, at) h = absurd cc
+fault_named e c w v s groups (refused.StoreFault k) is h = (k, same_store s _ is, h)
+fault_named e c w v s groups refused.Memory is h = absurd cc
+
+pub lacking_failed : (e : ℕ) (c : Query) (w v : Storage) (s : ℕ) (groups : List (List Location)) → HaveStores groups → HaveLackedIn e c w v groups (refused.StoreFault s) → StoreRose w v (store_at (stores_of groups) s)
+lacking_failed e c w v s groups some (r, is, h) = group_failed (Lacks c) e w v s groups some (fault_named e c w v s groups r is h)
+
+-- ---- groups of one store each
+
+abbrev pub AreAlone : List (List Location) → Type 0
+AreAlone groups = All (λ (g : List Location). length g ≡ 1) groups
+
+alone_file : (m : Map (Map (List ℕ))) (g : List Location) → length g ≡ 1 → map (location_files m) g ≡ group_files m g ∷ []
+alone_file m [] one = absurd (omega (arith, one))
+alone_file m (s ∷ []) one = refl
+alone_file m (s ∷ t ∷ g) one = absurd (omega (arith, one))
+
+-- their files are those of the stores
+pub alone_files : (m : Map (Map (List ℕ))) (groups : List (List Location)) → AreAlone groups → map (group_files m) groups ≡ map (location_files m) (stores_of groups)
+alone_files m [] alone = refl
+alone_files m (g ∷ groups) alone =
+    let one = alone_file m g (All-head (λ (g : List Location). length g ≡ 1) g groups alone) in
+    ap₂ (λ (f : List (Option (Map (List ℕ)))) (fs : List (Option (Map (List ℕ)))). f ++ fs) (sym one) (alone_files m groups (All-tail (λ (g : List Location). length g ≡ 1) g groups alone)) ∙ sym (map-append (location_files m) g (stores_of groups))
+
+-- each has a store
+pub alone_some : (groups : List (List Location)) → AreAlone groups → HaveStores groups
+alone_some groups alone k d lt = let one = alone k d lt in omega (arith, one)
+
+-- ---- folders that haven't failed
+
+no_fault : (w v : Storage) → ((q : List ℕ) → FolderRose w.disk v.disk q → ⊥) → (names : List Location) → IsTrue (are_folders names) → (k : ℕ) → StoreRose w v (store_at names k) → ⊥
+no_fault w v unrisen [] all k rose = unrisen [] rose
+no_fault w v unrisen (locations.Folder q ∷ names) all zero rose = unrisen q rose
+no_fault w v unrisen (locations.Folder q ∷ names) all (suc k) rose = no_fault w v unrisen names all k rose
+no_fault w v unrisen (locations.Http host port prefix ∷ names) all k rose = absurd (cc)
+
+-- so no group of them failed when it was asked for something
+pub none_failed_first : (lacks : Said → Type 0) (e : ℕ) (w v : Storage) → ((q : List ℕ) → FolderRose w.disk v.disk q → ⊥) → (s : ℕ) (groups : List (List Location)) → AreAlone groups → IsTrue (are_folders (stores_of groups)) → FailsFirstIn lacks e w v s groups → ⊥
+none_failed_first lacks e w v unrisen s groups alone all h = no_fault w v unrisen (stores_of groups) all s (group_failed lacks e w v s groups (alone_some groups alone) h)
+
+pub none_lacking : (e : ℕ) (c : Query) (w v : Storage) → ((q : List ℕ) → FolderRose w.disk v.disk q → ⊥) → (s : ℕ) (groups : List (List Location)) → AreAlone groups → IsTrue (are_folders (stores_of groups)) → HaveLackedIn e c w v groups (refused.StoreFault s) → ⊥
+none_lacking e c w v unrisen s groups alone all h = no_fault w v unrisen (stores_of groups) all s (lacking_failed e c w v s groups (alone_some groups alone) h)
