@@ -38,7 +38,6 @@ SHARED |= {
     'told_files': ({'chunk_proxy.States', 'command_groups.Opened'}, 'said of a cache, and of a group of stores'),
     'files_in': ({'command_groups.Opened', 'forms.Files'}, 'said of a group of stores, and of folders in memory'),
     'AreUnused': ({'assembler.OneKit', 'command_groups.Opened'}, 'said of seeds and stores of a kit, and of a group'),
-    'IsNumbered': ({'command_groups.Numbers', 'extract_command.Extract'}, 'said of a store, and of a file name'),
 }
 NAME = re.compile(r'[a-z][a-z0-9]*(?:_[a-z0-9]+)+|[A-Z][a-z0-9]+(?:[A-Z][a-z0-9]*)+')
 
