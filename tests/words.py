@@ -23,7 +23,7 @@ OPTIONS = [('store', ['-s', '--store'], 'location'), ('sizes', ['-m', '--chunk-s
            ('repair', ['-r', '--repair'], None), ('yes', ['-y', '--yes'], None),
            ('listen', ['-l', '--listen'], 'address'), ('writable', ['-w', '--writeable'], None),
            ('digest', ['--digest'], 'digest'), ('offset', ['-o', '--offset'], 'bytes'),
-           ('length', ['-l', '--length'], 'bytes')]
+           ('length', ['-l', '--length'], 'bytes'), ('retries', ['-e', '--error-retry'], 'retries')]
 SPELLINGS = sorted({spelling for _, spellings, _ in OPTIONS for spelling in spellings})
 SPELLED = {option: spellings for option, spellings, _ in OPTIONS}
 VALUES = {option: value for option, _, value in OPTIONS if value}
@@ -34,15 +34,16 @@ LARGE = '536870912'
 # A command's options with the least and the greatest number of times, and its operands alike.
 N = {'workers': (0, 1)}
 D = {'digest': (0, 1)}
+E = {'retries': (0, 1)}
 COMMANDS = {
     'make': ({'store': (1, 1), 'sizes': (0, 1), **N, **D}, (2, 2)),
-    'extract': ({'store': (1, 16), 'seed': (0, 64), 'cache': (0, 1), 'in place': (0, 1), **N}, (2, 2)),
-    'cat': ({'store': (1, 16), 'offset': (0, 1), 'length': (0, 1)}, (1, 1)),
+    'extract': ({'store': (1, 16), **E, 'seed': (0, 64), 'cache': (0, 1), 'in place': (0, 1), **N}, (2, 2)),
+    'cat': ({'store': (1, 16), **E, 'offset': (0, 1), 'length': (0, 1)}, (1, 1)),
     'verify-index': (N, (2, 2)),
     'chop': ({'store': (1, 1), **N}, (2, 2)),
-    'cache': ({'store': (1, 16), 'cache': (1, 1), **N}, (1, 64)),
+    'cache': ({'store': (1, 16), **E, 'cache': (1, 1), **N}, (1, 64)),
     'list-chunks': ({}, (1, 1)),
-    'info': ({'store': (0, 16)}, (1, 1)),
+    'info': ({'store': (0, 16), **E}, (1, 1)),
     'verify': ({'store': (1, 1), 'repair': (0, 1), **N, **D}, (0, 0)),
     'prune': ({'store': (1, 1), 'yes': (1, 1)}, (1, 64)),
     'chunk-server': ({'store': (1, 1), 'listen': (1, 1), 'writable': (0, 1), **N, **D}, (0, 0)),
@@ -63,9 +64,13 @@ INDEX_URLS = ['http://h/a.caibx', 'http://localhost:8080/a/b/', 'http://h/|']
 # Locations, and what each is.
 LOCATIONS = {'st': 'folder', 'a b': 'folder', '-s': 'folder', '--': 'folder', 'http:/h': 'folder', ':': 'folder',
              'http://localhost': 'url', 'http://localhost:8080/a/b/': 'url', 'http://127.0.0.1/': 'url',
-             'https://h/': 'bad', 'ftp://h/': 'bad', 'http://u@h/': 'bad', 'http://u:p@h/': 'bad', 'http://h/?q': 'bad',
+             'http://h/': 'url', 'https://h/': 'bad', 'ftp://h/': 'bad', 'http://u@h/': 'bad', 'http://u:p@h/': 'bad', 'http://h/?q': 'bad',
              'http://h/#f': 'bad', 'http://h:x/': 'bad', 'http://': 'bad', '://': 'bad', 'a|b': 'bad',
              'http://h/|': 'bad'}
+
+# Groups of locations, where the command takes them; others find them bad.
+GROUPS = ['a|b', 'st|http://localhost|a b', 'x|', '|', 'a||b', 'a|https://h/', 'https://h/|', '|'.join('abcdefgh'),
+          '|'.join('abcdefghijklmnop'), '|'.join('abcdefghijklmnopq')]
 
 
 # The second reading
@@ -82,16 +87,39 @@ def location(word):
     return LOCATIONS[word]
 
 
-def why_not_value(command, option, word):
+def takes_groups(command):
+    return 'retries' in COMMANDS[command][0]
+
+
+def parts_of(command, word):
+    """The locations of a value of -s."""
+    return word.split('|') if takes_groups(command) else [word]
+
+
+def why_not_locations(command, before, word):
+    """Why the word can't be a value of -s, where so many locations stand before it."""
+    parts = parts_of(command, word)
+    if takes_groups(command) and before + len(parts) > 16:
+        return 'TooMany'
+    if '' in parts:
+        return 'Empty'
+    kinds = [location(part) for part in parts]
+    if 'bad' in kinds:
+        return 'BadLocation'
+    return 'NeedsFolder' if command in FOLDERS_ALONE and 'url' in kinds else None
+
+
+def why_not_value(said, option, word):
     """Why the word can't be the option's value, by the first reason of the table."""
     kind = VALUES[option]
-    if kind in ('location', 'folder', 'seed') and word == '':
-        return 'Empty'
     if kind == 'location':
-        what = location(word)
-        return {'bad': 'BadLocation', 'url': 'NeedsFolder' if command in FOLDERS_ALONE else None, 'folder': None}[what]
+        return why_not_locations(said.command, len(said.stores()), word)
+    if kind in ('folder', 'seed') and word == '':
+        return 'Empty'
     if kind == 'workers':
         return None if number(word, 1, 32) else 'BadNumber'
+    if kind == 'retries':
+        return None if number(word, 0, 16) else 'BadNumber'
     if kind == 'sizes':
         parts = word.split(':')
         return None if len(parts) == 3 and all(number(part, 0, 9_999_999) for part in parts) else 'BadSizes'
@@ -147,6 +175,10 @@ class Said:
         self.given = {option: [] for option in SPELLED}
         self.operands = []
 
+    def stores(self):
+        """The stores of all groups."""
+        return [part for word in self.given['store'] for part in parts_of(self.command, word)]
+
 
 def read(words):
     """What the words after a command say, or Faulty."""
@@ -168,7 +200,7 @@ def read(words):
                 place, value = next(rest, (None, None))
                 if place is None:
                     raise Faulty(len(words), 'NoValue')
-                why = why_not_value(said.command, option, value)
+                why = why_not_value(said, option, value)
                 if why:
                     raise Faulty(place, why)
             said.given[option].append(value)
@@ -206,7 +238,7 @@ def text_of(said):
     if said.command == 'demo':
         return ''
     if said.command in ('cache', 'verify', 'chunk-server', 'index-server'):
-        folders = [store for store in said.given['store'] if location(store) != 'url'] + said.given['cache']
+        folders = [store for store in said.stores() if location(store) != 'url'] + said.given['cache']
         return f'{folders[0]}: no such folder'
     absent = said.operands[1 if said.command == 'make' else 0]
     return f'{absent}: no such file'
@@ -250,7 +282,7 @@ def agrees(words, folder):
 
 
 GOOD = {'location': 'st', 'sizes': '16:64:256', 'workers': '4', 'folder': 'near', 'seed': 'old.caibx',
-        'address': 'localhost:8080', 'digest': 'sha256', 'bytes': '7'}
+        'address': 'localhost:8080', 'digest': 'sha256', 'bytes': '7', 'retries': '3'}
 
 
 def fewest(command, but=()):
@@ -293,13 +325,15 @@ def tables(cases):
 def random_value(chance, option):
     kind = VALUES[option]
     if kind == 'location':
-        return chance.choice([*LOCATIONS, ''])
+        return chance.choice([*LOCATIONS, '', *GROUPS])
     if kind == 'sizes':
         part = ['0', '1', '16', '64', '256', '9999999', '10000000', '01', '', '-1', ' 1', 'x']
         count = chance.choice([3] * 8 + [1, 2, 4])
         return ':'.join(chance.choice(part[:6] if chance.random() < .7 else part) for _ in range(count))
     if kind == 'workers':
         return chance.choice(['1', '32', '10', '0', '33', '01', '', '+1', '4294967297', 'x', '1 ', '--', '٣'])
+    if kind == 'retries':
+        return chance.choice(['0', '1', '16', '17', '01', '', '-1', '+1', 'x', '٣'])
     if kind == 'seed':
         return chance.choice(['a.caibx', 'x/y.caibx', '-.caibx', '.caibx', '', 'a.caibx ', 'a.CAIBX', 'a',
                               'http://h/a.caibx'])
@@ -351,6 +385,17 @@ def places_of_indexes(cases):
                 expect_equal(agrees([*front, *operands[:-1], word], folder), wanted, word)
 
 
+def groups(cases):
+    """Each command with each group of locations, alone and behind others."""
+    for command, (takes, _) in COMMANDS.items():
+        if 'store' in takes:
+            with cases.case(f'{command}: which groups of locations are taken') as folder:
+                front, operands = fewest(command, but=['store'])
+                for word in GROUPS:
+                    agrees([*front, '-s', word, *operands], folder)
+                    agrees([*front, '-s', 'a|b|c|d|e|f|g', '-s', word, *operands], folder)
+
+
 def at_random(cases):
     told = Counter()
     for round_number in range(20):
@@ -367,8 +412,8 @@ def at_random(cases):
 def main():
     needs_program('words')
     cases = Cases('words')
-    for group in (tables, places_of_indexes, at_random):
-        group(cases)
+    for run in (tables, places_of_indexes, groups, at_random):
+        run(cases)
     return cases.end()
 
 
