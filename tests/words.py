@@ -64,9 +64,9 @@ INDEX_URLS = ['http://h/a.caibx', 'http://localhost:8080/a/b/', 'http://h/|']
 # Locations, and what each is.
 LOCATIONS = {'st': 'folder', 'a b': 'folder', '-s': 'folder', '--': 'folder', 'http:/h': 'folder', ':': 'folder',
              'http://localhost': 'url', 'http://localhost:8080/a/b/': 'url', 'http://127.0.0.1/': 'url',
-             'http://h/': 'url', 'https://h/': 'bad', 'ftp://h/': 'bad', 'http://u@h/': 'bad', 'http://u:p@h/': 'bad', 'http://h/?q': 'bad',
-             'http://h/#f': 'bad', 'http://h:x/': 'bad', 'http://': 'bad', '://': 'bad', 'a|b': 'bad',
-             'http://h/|': 'bad'}
+             'http://h/': 'url', 'https://h/': 'bad', 'ftp://h/': 'bad', 'http://u@h/': 'bad', 'http://u:p@h/': 'bad',
+             'http://h/?q': 'bad', 'http://h/#f': 'bad', 'http://h:x/': 'bad', 'http://': 'bad', '://': 'bad',
+             'a|b': 'bad', 'http://h/|': 'bad'}
 
 # Groups of locations, where the command takes them; others find them bad.
 GROUPS = ['a|b', 'st|http://localhost|a b', 'x|', '|', 'a||b', 'a|https://h/', 'https://h/|', '|'.join('abcdefgh'),
