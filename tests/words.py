@@ -37,25 +37,20 @@ D = {'digest': (0, 1)}
 E = {'retries': (0, 1)}
 COMMANDS = {
     'make': ({'store': (1, 1), 'sizes': (0, 1), **N, **D}, (2, 2)),
-    'extract': ({'store': (1, 16), 'seed': (0, 64), 'cache': (0, 1), 'in place': (0, 1), **N, **E},
-                (2, 2)),
-    'cat': ({'store': (1, 16), 'offset': (0, 1), 'length': (0, 1), **E}, (1, 1)),
+    'extract': ({'store': (1, 16), **E, 'seed': (0, 64), 'cache': (0, 1), 'in place': (0, 1), **N}, (2, 2)),
+    'cat': ({'store': (1, 16), **E, 'offset': (0, 1), 'length': (0, 1)}, (1, 1)),
     'verify-index': (N, (2, 2)),
     'chop': ({'store': (1, 1), **N}, (2, 2)),
-    'cache': ({'store': (1, 16), 'cache': (1, 1), **N, **E}, (1, 64)),
+    'cache': ({'store': (1, 16), **E, 'cache': (1, 1), **N}, (1, 64)),
     'list-chunks': ({}, (1, 1)),
     'info': ({'store': (0, 16), **E}, (1, 1)),
     'verify': ({'store': (1, 1), 'repair': (0, 1), **N, **D}, (0, 0)),
     'prune': ({'store': (1, 1), 'yes': (1, 1)}, (1, 64)),
-    'chunk-server': ({'store': (1, 16), 'listen': (1, 1), 'writable': (0, 1), 'cache': (0, 1), **N, **D, **E},
-                     (0, 0)),
+    'chunk-server': ({'store': (1, 1), 'listen': (1, 1), 'writable': (0, 1), **N, **D}, (0, 0)),
     'index-server': ({'store': (1, 1), 'listen': (1, 1), 'writable': (0, 1)}, (0, 0)),
     'demo': ({**N, **D}, (2, 2)),
 }
-FOLDERS_ALONE = ('verify', 'prune', 'index-server')
-# Whose locations may be groups, with `|` between the stores; chunk-server's only with a cache.
-GROUPING = ('extract', 'cat', 'cache', 'info', 'chunk-server')
-MOST_STORES = 16
+FOLDERS_ALONE = ('verify', 'prune', 'chunk-server', 'index-server')
 
 # How many of a command's operands are an INDEX, from the first on.
 INDEXES = {'make': 1, 'extract': 1, 'cat': 1, 'verify-index': 1, 'chop': 1, 'cache': 64, 'list-chunks': 1, 'info': 1,
@@ -68,10 +63,14 @@ INDEX_URLS = ['http://h/a.caibx', 'http://localhost:8080/a/b/', 'http://h/|']
 
 # Locations, and what each is.
 LOCATIONS = {'st': 'folder', 'a b': 'folder', '-s': 'folder', '--': 'folder', 'http:/h': 'folder', ':': 'folder',
-             'http://localhost': 'url', 'http://h/': 'url', 'http://localhost:8080/a/b/': 'url',
-             'http://127.0.0.1/': 'url', 'https://h/': 'bad', 'ftp://h/': 'bad', 'http://u@h/': 'bad',
-             'http://u:p@h/': 'bad', 'http://h/?q': 'bad', 'http://h/#f': 'bad', 'http://h:x/': 'bad', 'http://': 'bad',
-             '://': 'bad', 'a|b': 'bad', 'http://h/|': 'bad'}
+             'http://localhost': 'url', 'http://localhost:8080/a/b/': 'url', 'http://127.0.0.1/': 'url',
+             'http://h/': 'url', 'https://h/': 'bad', 'ftp://h/': 'bad', 'http://u@h/': 'bad', 'http://u:p@h/': 'bad',
+             'http://h/?q': 'bad', 'http://h/#f': 'bad', 'http://h:x/': 'bad', 'http://': 'bad', '://': 'bad',
+             'a|b': 'bad', 'http://h/|': 'bad'}
+
+# Groups of locations, where the command takes them; others find them bad.
+GROUPS = ['a|b', 'st|http://localhost|a b', 'x|', '|', 'a||b', 'a|https://h/', 'https://h/|', '|'.join('abcdefgh'),
+          '|'.join('abcdefghijklmnop'), '|'.join('abcdefghijklmnopq')]
 
 
 # The second reading
@@ -82,41 +81,45 @@ def number(word, least, most):
 
 def location(word):
     """What a location is: one of the list, or a word that isn't read as a URL."""
-    if '|' in word:
-        return 'bad'
     if word not in LOCATIONS:
         expect('://' not in word, f'{word} isn\'t on the list')
-        return 'folder'
+        return 'bad' if '|' in word else 'folder'
     return LOCATIONS[word]
 
 
-def parts_of(values):
-    """The stores of several values of `-s`."""
-    return [part for value in values for part in value.split('|')]
+def takes_groups(command):
+    return 'retries' in COMMANDS[command][0]
 
 
-def why_no_group(word, before):
-    """Why the word can't be a group of stores behind these values."""
-    parts = parts_of([word])
-    if len(parts_of(before)) + len(parts) > MOST_STORES:
+def parts_of(command, word):
+    """The locations of a value of -s."""
+    return word.split('|') if takes_groups(command) else [word]
+
+
+def why_not_locations(command, before, word):
+    """Why the word can't be a value of -s, where so many locations stand before it."""
+    parts = parts_of(command, word)
+    if takes_groups(command) and before + len(parts) > 16:
         return 'TooMany'
     if '' in parts:
         return 'Empty'
-    return 'BadLocation' if 'bad' in map(location, parts) else None
+    kinds = [location(part) for part in parts]
+    if 'bad' in kinds:
+        return 'BadLocation'
+    return 'NeedsFolder' if command in FOLDERS_ALONE and 'url' in kinds else None
 
 
-def why_not_value(command, option, word, before):
-    """Why the word can't be the option's value, behind its values before, by the first reason of the table."""
+def why_not_value(said, option, word):
+    """Why the word can't be the option's value, by the first reason of the table."""
     kind = VALUES[option]
-    if kind == 'location' and command in GROUPING:
-        return why_no_group(word, before)
-    if kind in ('location', 'folder', 'seed') and word == '':
-        return 'Empty'
     if kind == 'location':
-        what = location(word)
-        return {'bad': 'BadLocation', 'url': 'NeedsFolder' if command in FOLDERS_ALONE else None, 'folder': None}[what]
+        return why_not_locations(said.command, len(said.stores()), word)
+    if kind in ('folder', 'seed') and word == '':
+        return 'Empty'
     if kind == 'workers':
         return None if number(word, 1, 32) else 'BadNumber'
+    if kind == 'retries':
+        return None if number(word, 0, 16) else 'BadNumber'
     if kind == 'sizes':
         parts = word.split(':')
         return None if len(parts) == 3 and all(number(part, 0, 9_999_999) for part in parts) else 'BadSizes'
@@ -129,8 +132,6 @@ def why_not_value(command, option, word, before):
         return None if word in ('sha512-256', 'sha256') else 'BadDigest'
     if kind == 'bytes':
         return None if number(word, 0, (1 << 64) - 1) else 'BadNumber'
-    if kind == 'retries':
-        return None if number(word, 0, 16) else 'BadNumber'
     return None
 
 
@@ -167,14 +168,16 @@ class Faulty(Exception):
 
 
 class Said:
-    """What words say that are taken: the command, the values of each option in order with its own places, and the
-    operands."""
+    """What words say that are taken: the command, the values of each option in order, and the operands."""
 
     def __init__(self, command):
         self.command = command
         self.given = {option: [] for option in SPELLED}
-        self.places = {option: [] for option in SPELLED}
         self.operands = []
+
+    def stores(self):
+        """The stores of all groups."""
+        return [part for word in self.given['store'] for part in parts_of(self.command, word)]
 
 
 def read(words):
@@ -192,13 +195,12 @@ def read(words):
                 raise Faulty(place, 'UnknownOption')
             if len(said.given[option]) == takes[option][1]:
                 raise Faulty(place, 'TooMany')
-            said.places[option].append(place)
             value = None
             if option in VALUES:
                 place, value = next(rest, (None, None))
                 if place is None:
                     raise Faulty(len(words), 'NoValue')
-                why = why_not_value(said.command, option, value, said.given[option])
+                why = why_not_value(said, option, value)
                 if why:
                     raise Faulty(place, why)
             said.given[option].append(value)
@@ -207,26 +209,12 @@ def read(words):
             if why:
                 raise Faulty(place, why)
             said.operands.append(word)
-    if said.command == 'chunk-server' and not said.given['cache']:
-        judge_served(said)
     for missing, why in ((('store', 'cache', 'listen'), 'MissingOption'), (('yes',), 'NeedsYes')):
         if any(len(said.given[option]) < takes.get(option, (0, 0))[0] for option in missing):
             raise Faulty(len(words), why)
-    if said.command == 'chunk-server' and said.given['cache'] and said.given['writable']:
-        raise Faulty(len(words), 'ReadOnly')
     if len(said.operands) < least:
         raise Faulty(len(words), 'Operands')
     return said
-
-
-def judge_served(said):
-    """What is served without a cache is one folder, which isn't asked twice."""
-    further = said.places['store'][1:] + said.places['retries']
-    if further:
-        raise Faulty(min(further), 'TooMany')
-    for place, store in zip(said.places['store'], said.given['store']):
-        if '|' in store or location(store) == 'url':
-            raise Faulty(place + 1, 'NeedsFolder')
 
 
 def why_not_sizes(value):
@@ -250,7 +238,7 @@ def text_of(said):
     if said.command == 'demo':
         return ''
     if said.command in ('cache', 'verify', 'chunk-server', 'index-server'):
-        folders = [store for store in parts_of(said.given['store']) if location(store) != 'url'] + said.given['cache']
+        folders = [store for store in said.stores() if location(store) != 'url'] + said.given['cache']
         return f'{folders[0]}: no such folder'
     absent = said.operands[1 if said.command == 'make' else 0]
     return f'{absent}: no such file'
@@ -316,8 +304,6 @@ def tables(cases):
             for option, spellings in SPELLED.items():
                 value = [GOOD[VALUES[option]]] if option in VALUES else []
                 front, operands = fewest(command, but=[option])
-                if command == 'chunk-server' and option in ('store', 'retries'):
-                    front += ['-c', 'near']
                 least_times, times = takes.get(option, (0, 0))
                 for spelling in spellings:
                     if option_of(command, spelling) not in (None, option):
@@ -336,20 +322,18 @@ def tables(cases):
                 expect_equal(agrees(whole[0] + (least - 1) * ['7'], folder), 'Operands', 'an operand too few')
 
 
-RANDOM_GROUPS = ['st|a b', 'st|http://localhost', 'http://h/|st|:', 'st|', '|st', '|', 'st||a b', 'st|https://h/',
-                 'https://h/|', '|'.join(['st'] * 15), '|'.join(['st'] * 16), '|'.join(['st'] * 17), '|' * 16]
-
-
 def random_value(chance, option):
     kind = VALUES[option]
     if kind == 'location':
-        return chance.choice([*LOCATIONS, '', *RANDOM_GROUPS])
+        return chance.choice([*LOCATIONS, '', *GROUPS])
     if kind == 'sizes':
         part = ['0', '1', '16', '64', '256', '9999999', '10000000', '01', '', '-1', ' 1', 'x']
         count = chance.choice([3] * 8 + [1, 2, 4])
         return ':'.join(chance.choice(part[:6] if chance.random() < .7 else part) for _ in range(count))
     if kind == 'workers':
         return chance.choice(['1', '32', '10', '0', '33', '01', '', '+1', '4294967297', 'x', '1 ', '--', '٣'])
+    if kind == 'retries':
+        return chance.choice(['0', '1', '16', '17', '01', '', '-1', '+1', 'x', '٣'])
     if kind == 'seed':
         return chance.choice(['a.caibx', 'x/y.caibx', '-.caibx', '.caibx', '', 'a.caibx ', 'a.CAIBX', 'a',
                               'http://h/a.caibx'])
@@ -357,8 +341,6 @@ def random_value(chance, option):
         return chance.choice(['h:1', ':65535', '::1:80', 'h:0', 'h:65536', 'h', '', ':', 'h:080', 'h:1x', '-l:5'])
     if kind == 'digest':
         return chance.choice(['sha512-256', 'sha512/256', 'sha512', 'SHA256', 'sha-256', 'sha256 ', 'md5', '', '--'])
-    if kind == 'retries':
-        return chance.choice(['0', '16', '17', '-1', '', '01', '+1', 'x', '1 ', '4294967296', '--'])
     if kind == 'bytes':
         return chance.choice(['0', '7', '18446744073709551615', '18446744073709551616', '', '07', '+1', '-1', '--'])
     return chance.choice(['near', '', '--', '-c', '/a'])
@@ -403,25 +385,35 @@ def places_of_indexes(cases):
                 expect_equal(agrees([*front, *operands[:-1], word], folder), wanted, word)
 
 
+def groups(cases):
+    """Each command with each group of locations, alone and behind others."""
+    for command, (takes, _) in COMMANDS.items():
+        if 'store' in takes:
+            with cases.case(f'{command}: which groups of locations are taken') as folder:
+                front, operands = fewest(command, but=['store'])
+                for word in GROUPS:
+                    agrees([*front, '-s', word, *operands], folder)
+                    agrees([*front, '-s', 'a|b|c|d|e|f|g', '-s', word, *operands], folder)
+
+
 def at_random(cases):
     told = Counter()
-    for round_number in range(40):
+    for round_number in range(20):
         with cases.case(f'random words, round {round_number}') as folder:
             chance = random.Random(f'words {round_number}')
             for _ in range(100):
                 told[agrees(random_words(chance), folder)] += 1
     with cases.case('the random words had each fault, and some were taken'):
         for why in ('taken', 'UnknownOption', 'TooMany', 'NoValue', 'Empty', 'BadNumber', 'BadSizes', 'BadLocation',
-                    'NeedsFolder', 'BadSeed', 'BadListen', 'BadDigest', 'MissingOption', 'NeedsYes', 'ReadOnly',
-                    'Operands'):
+                    'NeedsFolder', 'BadSeed', 'BadListen', 'BadDigest', 'MissingOption', 'NeedsYes', 'Operands'):
             expect(told[why] > 4, f'{why} came {told[why]} times')
 
 
 def main():
     needs_program('words')
     cases = Cases('words')
-    for group in (tables, places_of_indexes, at_random):
-        group(cases)
+    for run in (tables, places_of_indexes, groups, at_random):
+        run(cases)
     return cases.end()
 
 

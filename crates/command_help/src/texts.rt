@@ -157,7 +157,6 @@ usage: desync list-chunks INDEX
 
 Prints the id of each chunk that INDEX lists, a line each, in the order of the
 image and as often as it stands there.
-There are no options.
 
 example: desync list-chunks disk.caibx
 ";
@@ -234,7 +233,7 @@ usage: desync index-server -s FOLDER -l HOST:PORT [-w]
 Serves the indexes of a folder over HTTP, one connection after the other, until
 it is killed: those whose names end in `.caibx`, as /disk.caibx. What isn't an
 index is neither given nor taken.
-Nobody is asked who they are: listen at localhost, or put a proxy in front.
+Nobody is asked who they are.
 
   -s, --store FOLDER            the folder of indexes
   -l, --listen HOST:PORT        the address; no HOST means all addresses
@@ -249,8 +248,7 @@ usage: desync demo [-n WORKERS] [--digest KIND] NUMBER SIZE
 
 Makes SIZE bytes, up to 2^29, which NUMBER determines, and cuts, stores and
 extracts them in memory, with a seed that differs in the middle. Prints what the
-extraction took: bytes, chunks, different chunks, and how many chunks were kept,
-copied, and given by the seed and by the store. No file is touched.
+extraction took, in bytes and in chunks. No file is touched.
 
   -n, --concurrency WORKERS     1 to 32 workers that extract, 10 if not given
       --digest KIND             the digest that names the chunks, sha512-256 if
