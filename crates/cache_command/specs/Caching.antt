@@ -1,5 +1,5 @@
--- `cache -s STORE.. -e RETRIES -c CACHE INDEX..`, over groups of stores. A name is its bytes; files are a folder's, where
--- they are told.
+-- `cache -s STORE.. -e RETRIES -c CACHE INDEX..`, over groups of stores. A name is its bytes; files are a folder's,
+-- where they are told.
 use Rattle.std.specs.Prelude.{◌≡◌, ◌⊎◌, ◌&&◌, ℕ, ◌+◌, ◌<◌, ◌≤◌, List, [], ◌∷◌, length, map, max}
 use Rattle.std.specs.Prelude.{Option, Some, IfSome, IfErr, IsSomeAnd, IsTrue, is_some, Result, Ok, Err}
 use Rattle.std.specs.List.{AllZip, Any}

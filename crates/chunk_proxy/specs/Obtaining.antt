@@ -29,8 +29,8 @@ pub record IsRightChunk (kind : DigestKind) (id b : List ℕ) : Type 0 where
   pub named : name_of kind b ≡ id
   pub few : length b ≤ size_limit
 
--- what the reply tells of a refusal of the stores: that there is no chunk, or that a store has failed. For want of memory
--- no reply is sent
+-- what the reply tells of a refusal of the stores: that there is no chunk, or that a store has failed. For want of
+-- memory no reply is sent
 abbrev pub AnswersRefusal : Refused → Answer → Type 0
 AnswersRefusal refused.Missing r = r ≡ bare 404
 AnswersRefusal (refused.Damaged store shows) r = r ≡ bare 404

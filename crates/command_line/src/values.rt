@@ -4,8 +4,8 @@ ghost use Rattle.std.specs.Prelude.{◌≡◌, ◌<◌, ◌≤◌, ◌^◌, ◌�
 ghost use Rattle.std.specs.Prelude.{◌==◌};
 ghost use Rattle.std.specs.Path.{rfind_below};
 ghost use Rattle.std.specs.Str.{IsCharBoundary};
-ghost use Rattle.command_line.specs.Values.{with_digit, with_digits, number_up_to, number_in_word, workers_of, retries_of};
-ghost use Rattle.command_line.specs.Values.{split_at, byte_count_of};
+ghost use Rattle.command_line.specs.Values.{with_digit, with_digits, number_up_to, number_in_word, workers_of};
+ghost use Rattle.command_line.specs.Values.{retries_of, split_at, byte_count_of};
 ghost use Rattle.command_line.specs.Values.{kib_of, sizes_of, listen_of, ends_in_caibx, is_seed, digest_of};
 
 use chunk_store::id::DigestKind;

@@ -75,13 +75,13 @@ module _ (e : ℕ) (c : Query) (w v : Storage) where
     refused.Damaged k x,
     λ no. absurd (cc),
     first_flat (λ g. (group_said w v g).denied c.id.0) (λ g. HasShown c x (group_said w v g)) (λ g. Lacks c (group_said w v g)) (λ s. (said_at w v s).denied c.id.0) (λ s. HasShown c x (said_at w v s)) (λ s. Lacks c (said_at w v s))
-    one_denied (one_shown x) one_lacks k groups alone h,
+        one_denied (one_shown x) one_lacks k groups alone h,
   )
   flat_by groups alone (refused.StoreFault k) q told is h = (
     refused.StoreFault k,
     λ no. absurd (cc),
     first_flat (λ g. Lacks c (group_said w v g)) (GroupRose e w v) (λ g. Lacks c (group_said w v g) ⊎ GroupRose e w v g) (λ s. Lacks c (said_at w v s)) (StoreRose w v) (λ s. Lacks c (said_at w v s) ⊎ StoreRose w v s)
-    one_lacks one_rose one_failed k groups alone h,
+        one_lacks one_rose one_failed k groups alone h,
   )
   flat_by groups alone refused.Memory q told is h = absurd (told is)
 

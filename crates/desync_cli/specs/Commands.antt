@@ -53,7 +53,8 @@ abbrev pub CommandEnds : Bool → Heard → Command → Step World Unit
 CommandEnds sure h (commands.Make store sizes workers digest index image) = MakeEnds store digest sizes index image
 CommandEnds sure h (commands.VerifyIndex workers index image) = VerifyIndexEnds index image
 CommandEnds sure h (commands.Chop store workers index image) = ChopEnds store index image
-CommandEnds sure h (commands.Cache stores retries cache workers indexes) = CacheEnds stores retries cache workers indexes
+CommandEnds sure h (commands.Cache stores retries cache workers indexes) =
+    CacheEnds stores retries cache workers indexes
 CommandEnds sure h (commands.ListChunks index) = ListChunksEnds index
 CommandEnds sure h (commands.Extract stores retries seeds cache in_place workers index target) =
     ExtractEnds (never_fail sure h.never_fails) (record { groups = stores; retries = retries }) cache seeds in_place

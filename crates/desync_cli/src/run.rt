@@ -219,8 +219,8 @@ where
 
     // Where nothing fails and each group is one store, the outcome and what stands afterwards are exactly those of the
     // command, unless there was no memory.
-    ensures exactly { IfSome (command_of (map string_bytes words.now)) (λ c. HasNoGroups c → (x : Contents) → IsFaultless
-        (parts (heard F.Folder.never_fails (L.state listen.old) (L.state listen.new)) c)
+    ensures exactly { IfSome (command_of (map string_bytes words.now)) (λ c. HasNoGroups c → (x : Contents) →
+        IsFaultless (parts (heard F.Folder.never_fails (L.state listen.old) (L.state listen.new)) c)
         (world (F.disk files.old) (D.state dial.old) (O.output out.old))
         (world (F.disk files.new) (D.state dial.new) (O.output out.new)) x
         → IsExact (heard F.Folder.never_fails (L.state listen.old) (L.state listen.new)) c x result.outcome

@@ -32,8 +32,8 @@ pub record MayProxy
   pub stored : IsTrue stores_sure → IfSome maps (λ ms. GivesWhere (given_by_stores kind ms) a r)
   pub sure : IsTrue stores_sure → r.status ≢ 500
 
--- what is replied where the cache didn't give a chunk that was asked for: the stores' chunk, or that there is none, or that
--- a store has failed
+-- what is replied where the cache didn't give a chunk that was asked for: the stores' chunk, or that there is none, or
+-- that a store has failed
 pub record Supplies (kind : DigestKind) (maps : Option (List (Map (List ℕ)))) (stores_sure : Bool) (m : ReadMethod)
     (id : ChunkId) (r : Answer) : Type 0 where
   pub only : IsProxyAnswer kind (asked_by m id) r

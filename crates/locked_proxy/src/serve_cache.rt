@@ -1,5 +1,5 @@
-//! A cache before stores over connections: the type of the cache's folder names what it began with, and a type names what
-//! the stores hold.
+//! A cache before stores over connections: the type of the cache's folder names what it began with, and a type names
+//! what the stores hold.
 
 ghost use Rattle.std.specs.Prelude.{◌≡◌, ◌≢◌, ◌<◌, ◌≤◌, [], vec_len, All, IfSome, Some};
 ghost use Rattle.chunk_store.specs.Kinds.{kind_named};
@@ -95,10 +95,11 @@ where
     }
 }
 
-/// Listens at an address, and serves the chunks of a cache over each connection that comes, by a thread for each, until no
-/// more come. A chunk that the cache doesn't give is obtained from the stores of a chain, and added to the cache. There
-/// is at least one chain, and all have the same stores. The cache is given back, with right chunks added or put in the
-/// place of others, and so are the chains. `ListenFault`: it can't listen there, or the next connection can't be taken.
+/// Listens at an address, and serves the chunks of a cache over each connection that comes, by a thread for each, until
+/// no more come. A chunk that the cache doesn't give is obtained from the stores of a chain, and added to the cache.
+/// There is at least one chain, and all have the same stores. The cache is given back, with right chunks added or put
+/// in the place of others, and so are the chains. `ListenFault`: it can't listen there, or the next connection can't be
+/// taken.
 pub fn serve_cache<L: Listen, F: Folder + Send, S: Store + Send + Sync, R: Threads + Wait + Sync>(
     rt: &R,
     alloc: Global,

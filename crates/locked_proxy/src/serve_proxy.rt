@@ -16,8 +16,8 @@ use std::alloc::Global;
 use std::sync::Wait;
 use std::thread::Threads;
 
-/// Serves each connection that comes by a thread of its own, until no more come. When it answers, all of them have ended.
-/// A call that fails on a connection ends it alone.
+/// Serves each connection that comes by a thread of its own, until no more come. When it answers, all of them have
+/// ended. A call that fails on a connection ends it alone.
 pub fn serve_proxy<
     L: Listen,
     F: Folder + Send,

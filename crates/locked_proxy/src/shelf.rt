@@ -57,8 +57,8 @@ impl<F: Folder, S: Store, N: ProxyName> Model for ProxyShelf<F, S, N> {
         × (s.room.items ≡ []) × (length s.chains.items ≤ vec_capacity s.room) };
 }
 
-/// The cache and the stores as one connection sees them. It holds one lock at a time, in no call but its own, and has let
-/// it go when that ends.
+/// The cache and the stores as one connection sees them. It holds one lock at a time, in no call but its own, and has
+/// let it go when that ends.
 #[derive(Drop)]
 pub struct ProxyDoor<'a, R: Wait, F: Folder, S: Store, N: ProxyName> {
     rt: &'a R,

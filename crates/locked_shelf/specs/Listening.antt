@@ -1,5 +1,6 @@
 -- Listeners, and how they change while connections are taken and given back.
-use Rattle.std.specs.Prelude.{◌≡◌, ◌≢◌, ℕ, ◌+◌, ◌≤◌, ◌⊎◌, ◌++◌, Bool, true, false, List, [], length, drop, IfSome, Some, All}
+use Rattle.std.specs.Prelude.{◌≡◌, ◌≢◌, ℕ, ◌+◌, ◌≤◌, ◌⊎◌, ◌++◌, Bool, true, false, List, [], length, drop, All}
+use Rattle.std.specs.Prelude.{IfSome, Some}
 use Rattle.std.specs.Option.{option_map}
 use Rattle.dsy_base.specs.Counts.{Rose}
 use Rattle.dsy_base.specs.Links.{LinkState, ListenState}

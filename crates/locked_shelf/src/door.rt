@@ -111,8 +111,8 @@ impl<F: Folder> LockedShelf<F> {
         self.kind
     }
 
-    /// The answer to a GET or a HEAD. The file is read under the lock, and the digest is computed once the lock is given
-    /// back.
+    /// The answer to a GET or a HEAD. The file is read under the lock, and the digest is computed once the lock is
+    /// given back.
     pub fn find<R: Wait>(
         &self,
         rt: &R,

@@ -152,7 +152,13 @@ where
 }
 
 // Serves all connections by threads, which all have ended when it answers.
-fn serve_scoped<'x, L: Listen, D: SharedShelf + Send + Sync, M: Mode + Send, R: Threads + Wait + Sync>(
+fn serve_scoped<
+    'x,
+    L: Listen,
+    D: SharedShelf + Send + Sync,
+    M: Mode + Send,
+    R: Threads + Wait + Sync,
+>(
     rt: &'x R,
     alloc: Global,
     listen: &mut L,

@@ -13,8 +13,8 @@ use dsy_base::link::Link;
 use std::alloc::Global;
 use std::sync::Wait;
 
-/// What threads share to answer requests for chunks. Each connection is served by a shelf of its own, which reaches what
-/// is shared through locks.
+/// What threads share to answer requests for chunks. Each connection is served by a shelf of its own, which reaches
+/// what is shared through locks.
 pub trait SharedShelf {
     /// Which digest names the chunks.
     ghost digest: { DigestKind };
@@ -25,15 +25,9 @@ pub trait SharedShelf {
     /// Whether chunks may be put.
     ghost takes: { Self → Bool };
 
-    /// Serves a new connection to its end, and answers whether there was no memory for it. Connections are numbered from
-    /// 0.
-    fn serve_link<K: Link, R: Wait>(
-        &self,
-        rt: &R,
-        alloc: Global,
-        number: u64,
-        link: &mut K,
-    ) -> bool
+    /// Serves a new connection to its end, and answers whether there was no memory for it. Connections are numbered
+    /// from 0.
+    fn serve_link<K: Link, R: Wait>(&self, rt: &R, alloc: Global, number: u64, link: &mut K) -> bool
         requires fresh { IsFreshLink (K.state link.old) }
         ensures ended { HasEndedSo digest may (takes self.now) result (K.state link.new) };
 }

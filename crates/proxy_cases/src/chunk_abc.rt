@@ -1,5 +1,5 @@
-//! What the tests of caches before stores share: requests for the chunk `abc`, their replies, and what holds it. Its name
-//! is from FIPS 180-4's examples.
+//! What the tests of caches before stores share: requests for the chunk `abc`, their replies, and what holds it. Its
+//! name is from FIPS 180-4's examples.
 
 ghost use Rattle.std.specs.Prelude.{◌≡◌};
 ghost use Rattle.chunk_store.specs.declared.id.DigestKind.TheVariants as kinds;

@@ -50,8 +50,8 @@ CountedInStores e w v groups l (Ok None) = length groups ≡ 0
 CountedInStores e w v groups l (Ok (Some n)) = (0 < length groups) × IsCount w v groups l n
 CountedInStores e w v groups l (Err o) = NotCounted e w v groups l o
 
--- servers are asked only whether they have a chunk, at most once for each listed id, and e times more where they failed.
--- Those that are a group by themselves are sent fronts of such requests
+-- servers are asked only whether they have a chunk, at most once for each listed id, and e times more where they
+-- failed. Those that are a group by themselves are sent fronts of such requests
 abbrev pub IdsCounted : List (List Location) → ℕ → Listing → Step Storage (Option ℕ)
 IdsCounted groups e l w r v = CountedInStores e w v groups l r × ConsultsStores (stores_of groups) w v
     × GroupsAsked e (λ id. 0) (asks_once l) (IsListedHas l) groups w.dial.ended v.dial.ended
