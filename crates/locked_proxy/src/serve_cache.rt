@@ -78,8 +78,8 @@ where
     ensures served { result.2 ≢ AllServed.Short → result.2 ≢ AllServed.Memory →
         ServesAll (EndsThrough (kind_named N.kind) N.opening P.maps F.never_fails S.never_fails L.Link.tells)
         (L.state listen.old) (L.state listen.new) }
-    ensures lacking { ServesSome (EndsThrough (kind_named N.kind) N.opening P.maps F.never_fails S.never_fails L.Link.tells)
-        (L.state listen.old) (L.state listen.new) }
+    ensures lacking { ServesSome (EndsThrough (kind_named N.kind) N.opening P.maps F.never_fails S.never_fails
+        L.Link.tells) (L.state listen.old) (L.state listen.new) }
     ensures cause { result.2 ≡ AllServed.ListenFault → Rose (L.state listen.old).faults (L.state listen.new).faults }
     ensures unfailed { result.2 ≡ AllServed.Memory → (L.state listen.new).faults ≡ (L.state listen.old).faults }
     ensures faults { (L.state listen.old).faults ≤ (L.state listen.new).faults }

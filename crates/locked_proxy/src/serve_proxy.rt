@@ -31,8 +31,8 @@ where
     ensures served { result ≢ AllServed.Short → result ≢ AllServed.Memory →
         ServesAll (EndsThrough (kind_named F.kind) F.opening N.maps F.never_fails S.never_fails L.Link.tells)
         (L.state listen.old) (L.state listen.new) }
-    ensures lacking { ServesSome (EndsThrough (kind_named F.kind) F.opening N.maps F.never_fails S.never_fails L.Link.tells)
-        (L.state listen.old) (L.state listen.new) }
+    ensures lacking { ServesSome (EndsThrough (kind_named F.kind) F.opening N.maps F.never_fails S.never_fails
+        L.Link.tells) (L.state listen.old) (L.state listen.new) }
     ensures cause { result ≡ AllServed.ListenFault → Rose (L.state listen.old).faults (L.state listen.new).faults }
     ensures unfailed { result ≡ AllServed.Memory → (L.state listen.new).faults ≡ (L.state listen.old).faults }
     ensures faults { (L.state listen.old).faults ≤ (L.state listen.new).faults }
