@@ -538,6 +538,10 @@ def words(cases):
 def main():
     needs_program('proxy')
     cases = Cases('proxy')
+    if '--cache' not in program.run(['chunk-server', '--help'], program.TOP).out:
+        with cases.case('chunk-server with a cache'):
+            raise Skip('this program has no `chunk-server -c`')
+        return cases.end()
     for count in CREWS:
         for part in (one_chunk, origin_ends, groups_and_retries, full_disk):
             part(cases, count)
