@@ -54,11 +54,12 @@ asked_name (Get id) = id
 asked_name (Has id) = id
 asked_name (Put id b) = id
 
--- a file that isn't there, and one that is; where files aren't told neither
+-- a file that isn't there, and one that is
 abbrev pub file_code : Option (List ℕ) → List ℕ
 file_code None = 0 ∷ []
 file_code (Some b) = 1 ∷ length b ∷ b
 
+-- what lies under the name, where files are told
 abbrev pub told_file_code : Option (Map (List ℕ)) → List ℕ → List ℕ
 told_file_code None name = 2 ∷ []
 told_file_code (Some files) name = file_code (files name)
