@@ -26,7 +26,7 @@ outcome_of_stores groups active (ends.Damaged e id k x) =
     ends.Damaged e id (first_store groups k + slice_index active k) x
 outcome_of_stores groups active other = other
 
--- so with an answer
+-- the same of an answer
 abbrev pub answer_of_stores : List (List Location) → List ℕ → Result Unit Outcome → Result Unit Outcome
 answer_of_stores groups active (Ok u) = Ok u
 answer_of_stores groups active (Err o) = Err (outcome_of_stores groups active o)

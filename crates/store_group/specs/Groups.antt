@@ -59,7 +59,7 @@ abbrev pub file_code : Option (List ℕ) → List ℕ
 file_code None = 0 ∷ []
 file_code (Some b) = 1 ∷ length b ∷ b
 
--- a file of a folder whose files are told, or neither
+-- what lies under the name, where files are told
 abbrev pub told_file_code : Option (Map (List ℕ)) → List ℕ → List ℕ
 told_file_code None name = 2 ∷ []
 told_file_code (Some files) name = file_code (files name)
