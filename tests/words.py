@@ -81,9 +81,11 @@ def number(word, least, most):
 
 def location(word):
     """What a location is: one of the list, or a word that isn't read as a URL."""
+    if '|' in word:
+        return 'bad'
     if word not in LOCATIONS:
         expect('://' not in word, f'{word} isn\'t on the list')
-        return 'bad' if '|' in word else 'folder'
+        return 'folder'
     return LOCATIONS[word]
 
 
@@ -398,7 +400,7 @@ def groups(cases):
 
 def at_random(cases):
     told = Counter()
-    for round_number in range(20):
+    for round_number in range(40):
         with cases.case(f'random words, round {round_number}') as folder:
             chance = random.Random(f'words {round_number}')
             for _ in range(100):
