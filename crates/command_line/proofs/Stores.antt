@@ -38,14 +38,14 @@ part_refused ws i w refusal.Memory lt is h all = tt
 group_few : (n room : ℕ) (w : List ℕ) → room ≡ 16 - n → length (parts_of w) ≤ room → nat_lt 16 (n + length (parts_of w)) ≡ false
 group_few n room w e le = le-ltb 16 (n + length (parts_of w)) (omega (arith, e, le, length-slice_split (λ c. c == 124) w))
 
-pub group_many : (n room : ℕ) (w : List ℕ) → room ≡ 16 - n → room < length (parts_of w) → group_refusal n (parts_of w) ≡ Some (refusal.Why why.TooMany)
-group_many n room w e lt = cond-true _ _ _ (lt-ltb 16 (n + length (parts_of w)) (omega (arith, e, lt)))
+pub many_of : (n room : ℕ) (w : List ℕ) → room ≡ 16 - n → room < length (parts_of w) → group_refusal n (parts_of w) ≡ Some (refusal.Why why.TooMany)
+many_of n room w e lt = cond-true _ _ _ (lt-ltb 16 (n + length (parts_of w)) (omega (arith, e, lt)))
 
-pub group_empty : (n room : ℕ) (w : List ℕ) → room ≡ 16 - n → length (parts_of w) ≤ room → list_any is_empty (parts_of w) ≡ true → group_refusal n (parts_of w) ≡ Some (refusal.Why why.Empty)
-group_empty n room w e le is = cond-false _ _ _ (group_few n room w e le) ∙ cond-true _ _ _ is
+pub empty_of : (n room : ℕ) (w : List ℕ) → room ≡ 16 - n → length (parts_of w) ≤ room → list_any is_empty (parts_of w) ≡ true → group_refusal n (parts_of w) ≡ Some (refusal.Why why.Empty)
+empty_of n room w e le is = cond-false _ _ _ (group_few n room w e le) ∙ cond-true _ _ _ is
 
-pub group_judged : (n room : ℕ) (w : List ℕ) → room ≡ 16 - n → length (parts_of w) ≤ room → list_any is_empty (parts_of w) ≡ false → group_refusal n (parts_of w) ≡ parts_refusal (parts_of w)
-group_judged n room w e le is = cond-false _ _ _ (group_few n room w e le) ∙ cond-false _ _ _ is
+pub judged_of : (n room : ℕ) (w : List ℕ) → room ≡ 16 - n → length (parts_of w) ≤ room → list_any is_empty (parts_of w) ≡ false → group_refusal n (parts_of w) ≡ parts_refusal (parts_of w)
+judged_of n room w e le is = cond-false _ _ _ (group_few n room w e le) ∙ cond-false _ _ _ is
 
 -- a part and those after it, one of which may be empty
 pub empty_from : (ps : List (Bor (List ℕ))) (i : ℕ) (d : Bor (List ℕ)) → i < length ps
