@@ -44,8 +44,8 @@ many_of n room w e lt = cond-true _ _ _ (lt-ltb 16 (n + length (parts_of w)) (om
 pub empty_of : (n room : ℕ) (w : List ℕ) → room ≡ 16 - n → length (parts_of w) ≤ room → list_any is_empty (parts_of w) ≡ true → group_refusal n (parts_of w) ≡ Some (refusal.Why why.Empty)
 empty_of n room w e le is = cond-false _ _ _ (group_few n room w e le) ∙ cond-true _ _ _ is
 
-pub judged_of : (n room : ℕ) (w : List ℕ) → room ≡ 16 - n → length (parts_of w) ≤ room → list_any is_empty (parts_of w) ≡ false → group_refusal n (parts_of w) ≡ parts_refusal (parts_of w)
-judged_of n room w e le is = cond-false _ _ _ (group_few n room w e le) ∙ cond-false _ _ _ is
+pub judges : (n room : ℕ) (w : List ℕ) → room ≡ 16 - n → length (parts_of w) ≤ room → list_any is_empty (parts_of w) ≡ false → group_refusal n (parts_of w) ≡ parts_refusal (parts_of w)
+judges n room w e le is = cond-false _ _ _ (group_few n room w e le) ∙ cond-false _ _ _ is
 
 -- a part and those after it, one of which may be empty
 pub empty_from : (ps : List (Bor (List ℕ))) (i : ℕ) (d : Bor (List ℕ)) → i < length ps

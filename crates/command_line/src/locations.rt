@@ -68,7 +68,7 @@ fn has_empty(parts: &[&str]) -> bool
 }
 
 // Judges a group of locations.
-#[tactic(auto, using(crate::proofs::Stores::many_of, crate::proofs::Stores::empty_of, crate::proofs::Stores::judged_of))]
+#[tactic(auto, using(crate::proofs::Stores::many_of, crate::proofs::Stores::empty_of, crate::proofs::Stores::judges))]
 fn judge_group(alloc: Global, before: &CheckedWords<'_>, word: &str) -> Result<(), Refusal>
     ensures { RefusesWords (group_refusal (stores_named before.now) (parts_of word.now)) result }
 {
