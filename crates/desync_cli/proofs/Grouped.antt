@@ -49,9 +49,12 @@ group_rose : (e : ℕ) (w v : Storage) (g rest : List Location) → 1 ≤ length
 group_rose e w v [] rest some h = absurd (omega (arith, some))
 group_rose e w v (s ∷ g) rest some h = store_rose e w v s (All-head (RoseBy (e + 1) w v) s g h)
 
+one_more : (m k : ℕ) → suc m + k ≡ suc (m + k)
+one_more m k = omega arith
+
 later_at : (g rest : List Location) (k : ℕ) → store_at (g ++ rest) (length g + k) ≡ store_at rest k
-later_at [] rest k = refl
-later_at (s ∷ g) rest k = later_at g rest k
+later_at [] rest k = ap (λ n. store_at rest n) (omega arith)
+later_at (s ∷ g) rest k = ap (λ n. store_at (s ∷ (g ++ rest)) n) (one_more (length g) k) ∙ later_at g rest k
 
 first_rose : (lacks : Said → Type 0) (e : ℕ) (w v : Storage) (k : ℕ) (groups : List (List Location)) → HaveStores groups → GroupFailsFirst lacks e w v k groups → StoreRose w v (store_at (stores_of groups) (first_store groups k))
 first_rose lacks e w v k [] some h = absurd h

@@ -76,7 +76,7 @@ abbrev pub HasNoGroups : Command → Type 0
 HasNoGroups (commands.Cache stores retries cache workers indexes) = All (λ (g : List Location). length g ≡ 1) stores
 HasNoGroups (commands.Extract stores retries seeds cache in_place workers index target) =
     All (λ (g : List Location). length g ≡ 1) stores
-HasNoGroups (commands.Cat stores retries offset length index) = All (λ (g : List Location). length g ≡ 1) stores
+HasNoGroups (commands.Cat stores retries offset size index) = All (λ (g : List Location). length g ≡ 1) stores
 HasNoGroups (commands.Info stores retries index) = All (λ (g : List Location). length g ≡ 1) stores
 HasNoGroups other = Unit {0}
 

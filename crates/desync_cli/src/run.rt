@@ -51,7 +51,6 @@ use store_commands::verify_index::check_image;
 
 // Does the command.
 #[rattlefmt::skip]
-#[tactic(auto, using(crate::proofs::Grouped::are_groups))]
 fn perform<R: Threads + Wait + Sync, F: ImageFiles, D: Dial + Send, L: Listen, O: Sink>(
     rt: &R,
     alloc: Global,

@@ -1,5 +1,7 @@
-use Rattle.std.proofs.Common.{refl}
+use Rattle.std.proofs.Common.{refl, subst}
+use Rattle.command_words.specs.Limits.{Fits}
 use Rattle.desync_cli.proofs.Fair.{none_such}
+use Rattle.desync_cli.proofs.Grouped.{are_groups}
 use Rattle.desync_cli.proofs.run.perform.Goals as goal
 
 pub returns-in-Make : goal.returns-in-Make
@@ -31,3 +33,17 @@ returns-in-Demo g c = record { unheard = λ _. refl; ends = rw c.in-Demo.is (c.d
 
 pub returns-in-ChunkServer : goal.returns-in-ChunkServer
 returns-in-ChunkServer g c = record { unheard = λ h. none_such (rw c.in-ChunkServer.is at h); ends = rw c.in-ChunkServer.is (c.chunk_server.ensures.ends _ _) }
+
+-- the words name groups of stores
+
+pub extract-requires-clause-stores : goal.extract-requires-clause-stores
+extract-requires-clause-stores g c = λ lives bounds. let fits = subst Fits c.in-Extract.is c.requires in are_groups _ _ fits.0 fits.1
+
+pub cat-requires-clause-stores : goal.cat-requires-clause-stores
+cat-requires-clause-stores g c = let fits = subst Fits c.in-Cat.is c.requires in are_groups _ _ fits.0 fits.1
+
+pub print_info-requires-clause-groups : goal.print_info-requires-clause-groups
+print_info-requires-clause-groups g c = let fits = subst Fits c.in-Info.is c.requires in λ some. are_groups _ _ some fits.0
+
+pub fill_cache-requires-clause-groups : goal.fill_cache-requires-clause-groups
+fill_cache-requires-clause-groups g c = λ lives bounds. let fits = subst Fits c.in-Cache.is c.requires in are_groups _ _ fits.0 fits.1
