@@ -591,7 +591,7 @@ def no_commands(cases):
         (['extract', '-k', '-sst', INDEX, OUT], 'word 2: UnknownOption'),
         (['extract', '-ks', STORE, INDEX, OUT], 'word 1: UnknownOption'),
         (['extract', '-k', 'a', 'b'], 'word 4: MissingOption'),
-        (['extract', '-k', '-s', 'a|b', INDEX, OUT], 'word 3: BadLocation'),
+        (['extract', '-k', '-s', 'a|https://h/', INDEX, OUT], 'word 3: BadLocation'),
         ([b'\xff', *right[1:]], 'a word is no text in UTF-8'), ([*right[:5], b'\xff'], 'a word is no text in UTF-8'),
     ]
     for words, text in never:
