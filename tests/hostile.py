@@ -344,14 +344,15 @@ def said_words(chance, folder):
 # Locations
 
 PIECES_OF_PATHS = [' ', '\t', '\r\n', '\n', '%0d%0a', '%00', '\\', '..', '.', '/', '//', ';', 'é', '\x01', '\x7f',
-                   '<', '"', '`', '{', '|', '^', '%', '%zz', '?', '#', '@', ':', '[', '+', '&', 'HTTP/1.1', '%20',
+                   '<', '"', '`', '{', '}', '^', '%', '%zz', '?', '#', '@', ':', '[', '+', '&', 'HTTP/1.1', '%20',
                    'a', '\u2028']
 ASK = re.compile(rb'HEAD (/[\x21-\x7e]*) HTTP/1\.1\r\nHost: 127\.0\.0\.1:[0-9]+\r\nAccept-Encoding: identity\r\n'
                  rb'Connection: close')
 
 
 def locations(rounds):
-    """Whatever the path of a location is, the request is of one line, and asks for a chunk without `..` before it."""
+    """Whatever the path of a location is, the request is of one line, and asks for a chunk without `..` before it. A `|`
+    would end the path: tests/words.py tries it."""
     with servers.Server(lambda peer, *_: peer.sendall(reply(404))) as server:
         def one(chance, folder):
             put_file(os.path.join(folder, 'a.caibx'), formats.ABC_INDEX)

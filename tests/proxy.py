@@ -538,7 +538,7 @@ def words(cases):
 def main():
     needs_program('proxy')
     cases = Cases('proxy')
-    if '--cache' not in program.run(['chunk-server', '--help'], program.TOP).out:
+    if b'--cache' not in program.run(['chunk-server', '--help'], program.TOP).out:
         with cases.case('chunk-server with a cache'):
             raise Skip('this program has no `chunk-server -c`')
         return cases.end()

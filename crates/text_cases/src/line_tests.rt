@@ -273,6 +273,12 @@ fn is_a_server(rt: &impl Abort, store: &Location, at: u16) {
     }
 }
 
+// The store of this number in the group of this number.
+fn store_in<'g>(rt: &impl Abort, groups: &'g Groups, group: usize, store: usize) -> &'g Location {
+    let group = groups.as_slice().get(group).expect(rt, "a group");
+    group.as_slice().get(store).expect(rt, "a store")
+}
+
 // There are so many stores in each group.
 fn have_sizes(rt: &impl Abort, groups: &Groups, sizes: &[usize]) {
     same(rt, groups.as_slice().len(), sizes.len());
@@ -296,8 +302,8 @@ fn words_of_extract_are_read(rt: HostRuntime) {
     match read_words(rt.alloc(), &words_of(&rt, rt.alloc(), line)) {
         Ok(Command::Extract { stores, retries, seeds, cache, in_place, workers, index, target }) => {
             have_sizes(&rt, &stores, &[1, 1]);
-            is_the_folder(&rt, &stores.as_slice()[0].as_slice()[0]);
-            is_a_server(&rt, &stores.as_slice()[1].as_slice()[0], 8080);
+            is_the_folder(&rt, store_in(&rt, &stores, 0, 0));
+            is_a_server(&rt, store_in(&rt, &stores, 1, 0), 8080);
             same(&rt, retries, 0);
             is_one_name(&rt, seeds.as_slice(), "old.img.caibx");
             same(&rt, cache.expect(&rt, "a cache").as_str(), "/var/cache/d");
@@ -317,10 +323,9 @@ fn groups_of_stores_are_read(rt: HostRuntime) {
     match read_words(rt.alloc(), &words_of(&rt, rt.alloc(), line)) {
         Ok(Command::Cache { stores, retries, cache, indexes, .. }) => {
             have_sizes(&rt, &stores, &[3, 1]);
-            let group = stores.as_slice()[0].as_slice();
-            is_a_server(&rt, &group[0], 8080);
-            is_the_folder(&rt, &group[1]);
-            is_a_server(&rt, &group[2], 80);
+            is_a_server(&rt, store_in(&rt, &stores, 0, 0), 8080);
+            is_the_folder(&rt, store_in(&rt, &stores, 0, 1));
+            is_a_server(&rt, store_in(&rt, &stores, 0, 2), 80);
             same(&rt, retries, 16);
             same(&rt, cache.as_str(), "near");
             is_one_name(&rt, indexes.as_slice(), "a.caibx");
