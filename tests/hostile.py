@@ -351,8 +351,8 @@ ASK = re.compile(rb'HEAD (/[\x21-\x7e]*) HTTP/1\.1\r\nHost: 127\.0\.0\.1:[0-9]+\
 
 
 def locations(rounds):
-    """Whatever the path of a location is, the request is of one line, and asks for a chunk without `..` before it. It has
-    no `|`, which would end it."""
+    """Whatever the path of a location is, the request is of one line, and asks for a chunk without `..` before it. It
+    has no `|`, which would end it."""
     with servers.Server(lambda peer, *_: peer.sendall(reply(404))) as server:
         def one(chance, folder):
             put_file(os.path.join(folder, 'a.caibx'), formats.ABC_INDEX)
