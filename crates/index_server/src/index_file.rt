@@ -21,10 +21,6 @@ use std::marker::Model;
 /// How many bytes of a file are read at first: 256 KiB, which is an index of 6,500 chunks.
 const FIRST_READ: usize = 262_144;
 
-/// How much longer the room for a file becomes where that has more bytes: 1 MiB. A folder of the operating system tells
-/// this by the file's size, and reads nothing: so the room becomes hardly longer than the file, which is read once.
-const STEP: usize = 1_048_576;
-
 // A buffer of this size.
 fn buffer_of(alloc: Global, size: usize) -> Result<Vec<u8>, AllocError>
     ensures room { IfOk result (λ v. length v.items ≡ size) }
@@ -32,17 +28,16 @@ fn buffer_of(alloc: Global, size: usize) -> Result<Vec<u8>, AllocError>
     vec![in alloc; 0u8; size]
 }
 
-// Makes the buffer longer. `resize` would take longer, since it fills byte by byte.
+// Makes the buffer longer, at least twice as long where it may be. What stands in it is to be read anew. A folder of
+// the operating system tells by the file's size that it has more bytes, and reads nothing, so a file is read once.
 fn grow(alloc: Global, buffer: &mut Vec<u8>) -> Result<(), AllocError>
     requires room { length buffer.old.items < file_limit }
     ensures ok { OnOk result (length buffer.old.items < length buffer.new.items) }
     ensures room { length buffer.new.items ≤ file_limit }
 {
-    let size = STEP.min(FILE_LIMIT as usize - buffer.len());
-    match buffer_of(alloc, size) {
-        Ok(mut more) => buffer.append(&mut more),
-        Err(refused) => Err(refused),
-    }
+    let size = (buffer.len() * 2).max(FIRST_READ).min(FILE_LIMIT as usize);
+    *buffer = buffer_of(alloc, size)?;
+    Ok(())
 }
 
 // Reads the file of this name to the front of the buffer, which becomes as long as is needed. `Longer`: it has more
