@@ -1,4 +1,4 @@
-//! Indexes of small images, and the names of their chunks. Sizes are in bytes.
+//! Indexes of small images, and the digests of their chunks. Sizes are in bytes.
 
 ghost use Rattle.std.specs.Prelude.{◌≡◌};
 ghost use Rattle.caibx_codec.specs.Listing.{kind_of};
@@ -31,7 +31,7 @@ pub const MNO: &str = "6b3443850ca9b33d2f554e50266c9316740a1488d1a8b2bc9c99f5a0e
 /// SHA-512/256 of `pqr`.
 pub const PQR: &str = "5edab707759604f989d55b6fb4aaac8de1192b30b7f07d1a6afa442d2e058c8f";
 
-/// The id that has this name, in digits.
+/// The id that has these digits.
 pub fn id_of(rt: &impl Abort, text: &str) -> ChunkId {
     ok(rt, ChunkId::from_hex(text))
 }

@@ -14,7 +14,7 @@ use Rattle.assembler.specs.declared.fault.ExtractFault.TheVariants as faults
 use Rattle.range_survey.specs.declared.report.Report.{Report}
 use Rattle.caibx_codec.specs.Listing.{Listing, count_of, id_of, kind_of, slice_of}
 use Rattle.chunk_sources.proofs.Lacking.{quiet_never}
-use Rattle.chunk_store.specs.Names.{name_of}
+use Rattle.chunk_store.specs.Digests.{digest_of}
 use Rattle.dsy_base.specs.Counts.{Quiet, raised}
 use Rattle.range_survey.specs.Fates.{FirstFates, is_right_at, settled}
 use Rattle.range_survey.specs.declared.fate.Fate.{Fate}
@@ -25,7 +25,7 @@ use Rattle.store_chain.specs.Chains.{Chained}
 pub settled_right : (l : Listing) (m : List Fate) (a b : ℕ) → Quiet a b → (base : List ℕ) → Surveyed l m a b base → (i : ℕ) → i < count_of l
     → settled m i ≡ is_right_at l base i
 settled_right l m a b quiet base over i inside =
-    let decides = bytes_eq-Decides (name_of (kind_of l) (slice_of l base i)) (id_of l i) in
+    let decides = bytes_eq-Decides (digest_of (kind_of l) (slice_of l base i)) (id_of l i) in
     elim (cases_Bool (settled m i)) [
       | inl is ↦ is ∙ sym (decides.1 (over.yes i inside is))
       | inr isnt ↦ elim (cases_Bool (is_right_at l base i)) [

@@ -7,7 +7,7 @@ use Rattle.std.proofs.lemmas.List.Elements.{Contains-append_left, Contains-appen
 use Rattle.std.specs.List.{Contains}
 use Rattle.caibx_codec.specs.Listing.{Listing, count_of, kind_of, slice_of}
 use Rattle.caibx_codec.specs.Right.{IsRightAt}
-use Rattle.chunk_store.specs.Names.{name_of}
+use Rattle.chunk_store.specs.Digests.{digest_of}
 use Rattle.dsy_base.specs.Counts.{Rose}
 use Rattle.range_survey.proofs.Excused.{excuses_none, excuses_on, excuses_since}
 use Rattle.range_survey.proofs.Fated.{set_apart, set_here}
@@ -58,7 +58,7 @@ grows_on m0 m1 m2 g h = record {
 
 -- an entry whose bytes are as they were is right as it was
 pub right_still : (l : Listing) (t0 t1 : List ℕ) (i : ℕ) → slice_of l t1 i ≡ slice_of l t0 i → IsRightAt t0 l i → IsRightAt t1 l i
-right_still l t0 t1 i same right = ap (name_of (kind_of l)) same ∙ right
+right_still l t0 t1 i same right = ap (digest_of (kind_of l)) same ∙ right
 
 pub fills_none : (l : Listing) (m : List Fate) (a b : ℕ) → a ≤ b → (t : List ℕ) → Fills l m m a b t t
 fills_none l m a b ab t = record {

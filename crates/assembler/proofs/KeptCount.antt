@@ -6,7 +6,7 @@ use Rattle.range_ledger.specs.Fills.{Grows}
 use Rattle.range_survey.specs.Reports.{one_if, right_below, tally}
 use Rattle.caibx_codec.specs.Listing.{Listing, count_of, id_of, kind_of, slice_of}
 use Rattle.chunk_sources.proofs.Lacking.{quiet_never}
-use Rattle.chunk_store.specs.Names.{name_of}
+use Rattle.chunk_store.specs.Digests.{digest_of}
 use Rattle.dsy_base.specs.Counts.{Quiet}
 use Rattle.range_survey.proofs.Excused.{excused_rose}
 use Rattle.range_survey.specs.Fates.{FirstFates, OpenWrong, SettledRight, fate_at, is_made, is_right_at, is_settled, settled}
@@ -41,7 +41,7 @@ module _ (l : Listing) (t : List ℕ) (m0 m1 : List Fate) (a b : ℕ) (quiet : Q
   was_kept : (i : ℕ) → i < count_of l → settled m0 i ≡ true → one_if fate.Kept (fate_at m1 i) ≡ counted (is_right_at l t i)
   was_kept i inside is =
       let kept : fate_at m1 i ≡ fate.Kept = grows.kept i is ∙ kept_first (fate_at m0 i) (first i inside) is in
-      let right : is_right_at l t i ≡ true = (bytes_eq-Decides (name_of (kind_of l) (slice_of l t i)) (id_of l i)).1 (yes_there i inside is) in
+      let right : is_right_at l t i ≡ true = (bytes_eq-Decides (digest_of (kind_of l) (slice_of l t i)) (id_of l i)).1 (yes_there i inside is) in
       ap (one_if fate.Kept) kept ∙ ap counted (sym right)
 
   not_kept : (i : ℕ) → settled m0 i ≡ false → one_if fate.Kept (fate_at m1 i) ≡ 0
@@ -53,7 +53,7 @@ module _ (l : Listing) (t : List ℕ) (m0 m1 : List Fate) (a b : ℕ) (quiet : Q
   was_open : (i : ℕ) → i < count_of l → settled m0 i ≡ false → one_if fate.Kept (fate_at m1 i) ≡ counted (is_right_at l t i)
   was_open i inside isnt = elim (cases_Bool (is_right_at l t i)) [
     | inl right ↦ absurd (quiet_never a b quiet (excused_rose none_there.failed i a b
-        (none_there.missed i inside isnt ((bytes_eq-Decides (name_of (kind_of l) (slice_of l t i)) (id_of l i)).0 right)) none_there.excused))
+        (none_there.missed i inside isnt ((bytes_eq-Decides (digest_of (kind_of l) (slice_of l t i)) (id_of l i)).0 right)) none_there.excused))
     | inr wrong ↦ not_kept i isnt ∙ ap counted (sym wrong)
   ]
 

@@ -5,7 +5,7 @@ ghost use Rattle.std.specs.Prelude.{true, false, IsTrue, OnOk, OnErr, is_some};
 ghost use Rattle.assembler.specs.Economy.{Tallied};
 ghost use Rattle.caibx_codec.specs.Listing.{count_of, id_of, kind_of, size_of};
 ghost use Rattle.chunk_sources.specs.Wants.{IsAmong};
-ghost use Rattle.chunk_store.specs.Names.{name_of};
+ghost use Rattle.chunk_store.specs.Digests.{digest_of};
 ghost use Rattle.dsy_base.specs.Counts.{Rose};
 ghost use Rattle.range_ledger.specs.Fills.{Fills, FillsTorn, Grows, WhereTold};
 ghost use Rattle.range_survey.specs.Fates.{fate_at, is_made, is_settled, settled};
@@ -30,7 +30,7 @@ pub(crate) fn put<E: Ledger>(
     requires made { is_made origin ≡ true }
     requires may { (k : ℕ) → k < length entries.now → E.run.may (slice_index entries.now k) ≡ true }
     requires right { IsTrue E.tells → (k : ℕ) → k < length entries.now →
-        name_of (kind_of E.run.listing) chunk.now ≡ id_of E.run.listing (slice_index entries.now k) }
+        digest_of (kind_of E.run.listing) chunk.now ≡ id_of E.run.listing (slice_index entries.now k) }
     ensures ok { OnOk result ((i : ℕ) → IsAmong entries.now i → settled (E.fates ledger.new) i ≡ true) }
     ensures origin { (i : ℕ) → settled (E.fates ledger.old) i ≡ false → settled (E.fates ledger.new) i ≡ true →
         (fate_at (E.fates ledger.new) i ≡ origin) ⊎ (fate_at (E.fates ledger.new) i ≡ Fate.Copied) }

@@ -11,7 +11,7 @@ use Rattle.buzhash_cut.specs.Entries.{IsCutEntry, IsStep, AreLinked, AreAll}
 use Rattle.caibx_codec.specs.Right.{IsRight}
 use Rattle.chunk_ends.specs.Sizes.{Sizes}
 use Rattle.caibx_codec.specs.Listing.{Listing, count_of, start_of, end_of, id_of, kind_of, slice_of, image_length}
-use Rattle.chunk_store.specs.Names.{name_of}
+use Rattle.chunk_store.specs.Digests.{digest_of}
 use Rattle.chunk_store.specs.declared.id.DigestKind.{DigestKind}
 use Rattle.chunk_store.specs.declared.id.DigestKind.TheVariants as kinds
 use Rattle.dsy_base.specs.Bytes.{Held}
@@ -40,13 +40,13 @@ module _ (s : Sizes) (kind : DigestKind) (image : List ℕ) where
       here ∙ sym (start_at-suc end (named_from kind image end ends) i)
 
   pub id_named : (start : ℕ) (ends : List ℕ) (i : ℕ) → i < length ends
-      → id_at (named_from kind image start ends) i ≡ name_of kind (slice_range image (start_at start (named_from kind image start ends) i) (end_at (named_from kind image start ends) i))
+      → id_at (named_from kind image start ends) i ≡ digest_of kind (slice_range image (start_at start (named_from kind image start ends) i) (end_at (named_from kind image start ends) i))
   id_named start [] i lt = absurd (omega arith)
   id_named start (end ∷ ends) zero lt = refl
   id_named start (end ∷ ends) (suc zero) lt = id_named end ends zero (omega arith)
   id_named start (end ∷ ends) (suc (suc i)) lt =
       id_named end ends (suc i) (omega arith)
-      ∙ ap (λ a. name_of kind (slice_range image a (end_at (named_from kind image end ends) (suc i)))) (sym (later start end ends i))
+      ∙ ap (λ a. digest_of kind (slice_range image a (end_at (named_from kind image end ends) (suc i)))) (sym (later start end ends i))
 
   pub ends_rise : (start : ℕ) (ends : List ℕ) → AreCuts s image start ends → (i : ℕ) → i < length ends
       → start_at start (named_from kind image start ends) i ≤ end_at (named_from kind image start ends) i
@@ -69,7 +69,7 @@ made_of kind least average greatest es = record { flags = flags_of kind; least =
 -- what is said of each chunk of the index of an image by its number
 pub record AreNamed (kind : DigestKind) (image : List ℕ) (l : Listing) : Type 0 where
   pub rises : (i : ℕ) → i < count_of l → start_of l i ≤ end_of l i
-  pub named : (i : ℕ) → i < count_of l → name_of kind (slice_of l image i) ≡ id_of l i
+  pub named : (i : ℕ) → i < count_of l → digest_of kind (slice_of l image i) ≡ id_of l i
   pub whole : image_length l ≡ length image
 
 listed_named : (kind : DigestKind) (s : Sizes) (image ends : List ℕ) → AreCuts s image 0 ends → AreNamed kind image (listing_of kind s image ends)
@@ -99,7 +99,7 @@ image_right kind s image l is =
     let named = index_named kind s image l is in
     record {
       size = sym named.whole;
-      entries = λ i lt. subst (λ (k : DigestKind). name_of k (slice_of l image i) ≡ id_of l i) (sym (index_kind kind s image l is)) (named.named i lt);
+      entries = λ i lt. subst (λ (k : DigestKind). digest_of k (slice_of l image i) ≡ id_of l i) (sym (index_kind kind s image l is)) (named.named i lt);
     }
 
 -- the last of all entries ends with the image

@@ -10,7 +10,7 @@ use Rattle.buzhash_cut.specs.declared.image.CutFault.{CutFault}
 use Rattle.buzhash_cut.specs.declared.image.CutFault.TheVariants as faults
 use Rattle.caibx_codec.specs.Seen.{pairs}
 use Rattle.caibx_codec.specs.declared.index.Entry.{Entry}
-use Rattle.chunk_store.specs.Names.{name_of}
+use Rattle.chunk_store.specs.Digests.{digest_of}
 use Rattle.chunk_store.specs.declared.id.DigestKind.{DigestKind}
 use Rattle.dsy_base.specs.Bytes.{Held}
 
@@ -99,7 +99,7 @@ module _ (kind : DigestKind) (s : Sizes) (image : List ℕ) where
   names_of a c (e ∷ es) p =
       let here : IsCutEntry kind s image a e = p.0 in
       let rest : es ≡ named_from kind image e.0 (ends_in es) = names_of e.0 c es p.1 in
-      ap (λ (x : List ℕ). (e.0, x) ∷ es) here.named ∙ ap (λ (ys : List (ℕ × List ℕ)). (e.0, name_of kind (slice_range image a e.0)) ∷ ys) rest
+      ap (λ (x : List ℕ). (e.0, x) ∷ es) here.named ∙ ap (λ (ys : List (ℕ × List ℕ)). (e.0, digest_of kind (slice_range image a e.0)) ∷ ys) rest
 
   -- more chunks than an index may list
   pub many_of : (c : ℕ) (es : List (ℕ × List ℕ)) → AreLinked (IsCutEntry kind s image) 0 es c → c ≤ length image → 4194304 < length es → HasTooManyCuts s image

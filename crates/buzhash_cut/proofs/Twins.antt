@@ -1,4 +1,4 @@
--- Bytes that are right by one index are equal, or show two unequal pieces that have one name.
+-- Bytes that are right by one index are equal, or show two unequal pieces that have one digest.
 use Rattle.std.proofs.Common.{◌≡◌, ◌≢◌, ℕ, zero, suc, ◌+◌, ◌-◌, ◌<◌, ◌≤◌, ◌⊎◌, List, ◌++◌, take, slice_range, Bool, true, false, refl, sym, ap, subst, ◌∙◌, arith, inl, inr}
 use Rattle.std.proofs.Math.Seq.{take-add}
 use Rattle.std.proofs.lemmas.List.{take_all}

@@ -1,11 +1,11 @@
--- The chunks of an image as entries: where each ends, and its name.
+-- The chunks of an image as entries: where each ends, and its digest.
 use Rattle.std.specs.Prelude.{◌≡◌, ℕ, ◌+◌, ◌-◌, ◌<◌, ◌≤◌, List, [], ◌∷◌, length, drop, slice_range, Option}
 use Rattle.std.specs.Prelude.{IfSome}
 use Rattle.caibx_fields.specs.Limits.{item_limit}
 use Rattle.chunk_ends.specs.Cuts.{IsCut}
 use Rattle.buzhash_cut.specs.Image.{HasTooManyCuts}
 use Rattle.chunk_ends.specs.Sizes.{Sizes}
-use Rattle.chunk_store.specs.Names.{name_of}
+use Rattle.chunk_store.specs.Digests.{digest_of}
 use Rattle.chunk_store.specs.declared.id.DigestKind.{DigestKind}
 use Rattle.dsy_base.specs.Bytes.{Held}
 
@@ -13,7 +13,7 @@ use Rattle.dsy_base.specs.Bytes.{Held}
 pub record IsCutEntry (kind : DigestKind) (s : Sizes) (image : List ℕ) (start : ℕ) (e : ℕ × List ℕ) : Type 0 where
   pub after : start < e.0
   pub cut : IsCut s (drop start image) (e.0 - start)
-  pub named : e.1 ≡ name_of kind (slice_range image start e.0)
+  pub named : e.1 ≡ digest_of kind (slice_range image start e.0)
 
 -- an entry's end is after `start`, by no more than the greatest size of a chunk
 abbrev pub IsStep : ℕ → ℕ → ℕ × List ℕ → Type 0

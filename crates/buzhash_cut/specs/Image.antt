@@ -1,4 +1,4 @@
--- The index of an image: its chunks by their ends, each with its name.
+-- The index of an image: its chunks by their ends, each with its digest.
 use Rattle.std.specs.Prelude.{◌≡◌, ℕ, ◌<◌, ◌≤◌, List, [], ◌∷◌, length, slice_index, slice_range, All, Result, Ok, Err}
 use Rattle.caibx_fields.specs.Limits.{item_limit}
 use Rattle.chunk_ends.specs.Cuts.{AreCuts}
@@ -8,15 +8,15 @@ use Rattle.buzhash_cut.specs.declared.image.CutFault.TheVariants as faults
 use Rattle.caibx_codec.specs.Listing.{Listing}
 use Rattle.dsy_base.specs.Bytes.{Held}
 use Rattle.dsy_base.specs.Counts.{CountsFaults}
-use Rattle.chunk_store.specs.Names.{name_of}
+use Rattle.chunk_store.specs.Digests.{digest_of}
 use Rattle.chunk_store.specs.declared.id.DigestKind.{DigestKind}
 use Rattle.chunk_store.specs.declared.id.DigestKind.TheVariants as kinds
 
--- each end, from the chunk on that begins at `start`, with the name of its chunk
+-- each end, from the chunk on that begins at `start`, with the digest of its chunk
 abbrev pub named_from : DigestKind → List ℕ → ℕ → List ℕ → List (ℕ × List ℕ)
 named_from kind image start [] = []
 named_from kind image start (end ∷ ends) =
-    (end, name_of kind (slice_range image start end)) ∷ named_from kind image end ends
+    (end, digest_of kind (slice_range image start end)) ∷ named_from kind image end ends
 
 -- what the head of an index says that is made: casync's flag 0x8000000000000000, and that for SHA-512/256
 abbrev pub flags_of : DigestKind → ℕ

@@ -228,7 +228,7 @@ CacheEnds groups e cache most indexes = do
   _ ← OnDisk (CacheOpened (stores_of groups) (Some cache))
   OnStorage (IndexesFilled groups e cache most indexes)
 
--- the index lists the id, under which bytes of that name stand, by the index's kind of digest
+-- the index lists the id, under which bytes of that digest stand, by the index's kind of digest
 abbrev pub HoldsListed : Map (List ℕ) → List ℕ → Listing → Type 0
 HoldsListed m q l = IsAmong l (count_of l) q × HoldsNamed (kind_of l) q (m q)
 

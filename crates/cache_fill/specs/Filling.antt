@@ -9,7 +9,7 @@ use Rattle.caibx_codec.specs.Asks.{IsListedGet}
 use Rattle.caibx_codec.specs.Listing.{Listing, count_of, id_of, kind_of, size_of}
 use Rattle.chunk_store.specs.Asks.{Ask, Get}
 use Rattle.chunk_store.specs.Giving.{GivesChunk, IsChunk}
-use Rattle.chunk_store.specs.Names.{name_of}
+use Rattle.chunk_store.specs.Digests.{digest_of}
 use Rattle.chunk_store.specs.declared.id.ChunkId.{ChunkId}
 use Rattle.chunk_store.specs.declared.store.Store.{Ghosts as StoreWords}
 use Rattle.dsy_base.specs.Counts.{Quiet, Rose}
@@ -37,9 +37,9 @@ GivesEntry l i m = GivesChunk (kind_of l) (id_of l i) (size_of l i) (m (id_of l 
 abbrev pub HasOneSize : Listing → ℕ → Type 0
 HasOneSize l i = (j : ℕ) → j < count_of l → id_of l j ≡ id_of l i → size_of l j ≡ size_of l i
 
--- bytes with the name of entry i are held, and of its size where its id is listed with no other
+-- bytes with the digest of entry i are held, and of its size where its id is listed with no other
 abbrev pub HoldsEntry : Listing → ℕ → Option (List ℕ) → Type 0
-HoldsEntry l i held = (b : List ℕ) × (held ≡ Some b) × (name_of (kind_of l) b ≡ id_of l i)
+HoldsEntry l i held = (b : List ℕ) × (held ≡ Some b) × (digest_of (kind_of l) b ≡ id_of l i)
     × (HasOneSize l i → length b ≡ size_of l i)
 
 -- so it is with the first k entries on a shelf, where it tells what it holds

@@ -9,7 +9,7 @@ use Rattle.cache_store.specs.Through.{AddedBeside, kept_by}
 use Rattle.cache_store.specs.declared.cached.Kept.{Kept}
 use Rattle.cache_store.specs.declared.cached.Kept.TheVariants as kept
 use Rattle.chunk_store.specs.Folders.{chunks}
-use Rattle.chunk_store.specs.Names.{IsId}
+use Rattle.chunk_store.specs.Digests.{IsId}
 use Rattle.chunk_store.specs.Paths.{path_of}
 use Rattle.dir_store.specs.Names.{id_at_path, is_stranger, is_temporary}
 use Rattle.dir_store.specs.Puts.{LeavesTemporary, PutsAtPath}

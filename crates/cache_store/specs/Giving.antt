@@ -10,7 +10,7 @@ abbrev pub SomeGives : DigestKind → List ℕ → ℕ → List (Map (List ℕ))
 SomeGives kind id size maps = Any (λ m. GivesChunk kind id size (m id)) maps
 
 -- of each id that is listed with several sizes, these stores together give chunks of one size. Two chunks of unequal
--- sizes with one name would be needed for anything else
+-- sizes with one digest would be needed for anything else
 abbrev pub GiveOneSize : (List ℕ → ℕ → Type 0) → DigestKind → List (Map (List ℕ)) → Type 0
 GiveOneSize Listed kind maps = (id : List ℕ) (n m : ℕ) → Listed id n → Listed id m
     → SomeGives kind id n maps → SomeGives kind id m maps → n ≡ m

@@ -6,7 +6,7 @@ use Rattle.std.specs.Option.{option_map}
 use Rattle.cache_store.specs.declared.shelf.CacheMiss.{CacheMiss}
 use Rattle.cache_store.specs.declared.shelf.CacheMiss.TheVariants as miss
 use Rattle.chunk_store.specs.Folders.{chunks}
-use Rattle.chunk_store.specs.Names.{name_of}
+use Rattle.chunk_store.specs.Digests.{digest_of}
 use Rattle.chunk_store.specs.declared.id.DigestKind.{DigestKind}
 use Rattle.dir_store.specs.Names.{is_stranger}
 use Rattle.dsy_base.specs.Maps.{Map}
@@ -58,7 +58,7 @@ IsPair id size pairs = Any (λ (p : List ℕ × ℕ). (p.0 ≡ id) × (p.1 ≡ s
 -- stores holds them under it. The last two only where the type of the folder names pairs and stores
 pub record MayAdd (kind : DigestKind) (pairs : Option (List (List ℕ × ℕ))) (stores : Option (List (Map (List ℕ))))
     (id b : List ℕ) : Type 0 where
-  pub named : name_of kind b ≡ id
+  pub named : digest_of kind b ≡ id
   pub listed : IfSome pairs (IsPair id (length b))
   pub held : IfSome stores (Any (λ m. m id ≡ Some b))
 

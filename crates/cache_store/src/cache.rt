@@ -5,7 +5,7 @@ ghost use Rattle.std.specs.List.{Any};
 ghost use Rattle.cache_store.specs.Shelves.{IsPair, KeepsShelf, MayHold, Shelf, Stocks, held_on, shelf_of};
 ghost use Rattle.cache_store.specs.Through.{AddedTo, Unfound, kept_by};
 ghost use Rattle.cache_store.specs.declared.cached.Kept.{Kept};
-ghost use Rattle.chunk_store.specs.Names.{name_of};
+ghost use Rattle.chunk_store.specs.Digests.{digest_of};
 ghost use Rattle.dsy_base.specs.Maps.{Map};
 ghost use Rattle.store_chain.specs.Queries.{FillsQuery, query_of};
 
@@ -53,7 +53,7 @@ pub trait Cache: Drop {
 
     /// Adds the chunk of this id, in the place of what stood there.
     fn keep(&mut self, id: &ChunkId, b: &[u8]) -> Result<(), IoFault>
-        requires named { name_of (shelf self.old).kind b.now ≡ id.now.0 }
+        requires named { digest_of (shelf self.old).kind b.now ≡ id.now.0 }
         requires listed { IfSome pairs (IsPair id.now.0 (length b.now)) }
         requires held { IfSome stores (Any (λ m. m id.now.0 ≡ Some b.now)) }
         ensures stocks { Stocks (λ q x. (q ≡ id.now.0) × (x ≡ b.now)) (shelf self.old) (shelf self.new) }

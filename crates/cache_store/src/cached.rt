@@ -7,7 +7,7 @@ ghost use Rattle.store_chain.specs.Giving.{SomeHolds};
 ghost use Rattle.cache_store.specs.Shelves.{IsPair, KeepsShelf, MayHold, Stocks, held_on, shelf_of};
 ghost use Rattle.cache_store.specs.Through.{AddedOnce, AddedTo, CacheGave, FromShelf, FromStores, StoresGave, Unfound};
 ghost use Rattle.chunk_store.specs.Asks.{Get};
-ghost use Rattle.chunk_store.specs.Names.{name_of};
+ghost use Rattle.chunk_store.specs.Digests.{digest_of};
 ghost use Rattle.store_chain.specs.Chains.{KeepsStores};
 ghost use Rattle.store_chain.specs.Queries.{FillsQuery, IsWanted, query_of};
 
@@ -69,7 +69,7 @@ fn find_first<C: Cache>(
 
 // Adds what a store gave to the cache.
 fn keep<C: Cache>(cache: &mut C, id: &ChunkId, b: &[u8]) -> Kept
-    requires named { name_of (C.shelf cache.old).kind b.now ≡ id.now.0 }
+    requires named { digest_of (C.shelf cache.old).kind b.now ≡ id.now.0 }
     requires listed { IfSome C.pairs (IsPair id.now.0 (length b.now)) }
     requires held { IfSome C.stores (Any (λ m. m id.now.0 ≡ Some b.now)) }
     ensures stocks { Stocks (λ q x. (q ≡ id.now.0) × (x ≡ b.now)) (C.shelf cache.old) (C.shelf cache.new) }
@@ -191,7 +191,7 @@ impl<F: Folder, S: Store> Cached<F, S> {
 
     /// Adds the chunk of this id to the shelf, in the place of what stood there. The stores aren't asked.
     pub fn keep(&mut self, id: &ChunkId, b: &[u8]) -> Kept
-        requires named { name_of self.old.shelf.kind b.now ≡ id.now.0 }
+        requires named { digest_of self.old.shelf.kind b.now ≡ id.now.0 }
         requires unnamed { (F.pairs ≡ None) × (F.stores ≡ None) }
         ensures stocks { Stocks (λ q x. (q ≡ id.now.0) × (x ≡ b.now))
             (shelf_of F.files F.place F.faults self.old.shelf) (shelf_of F.files F.place F.faults self.new.shelf) }

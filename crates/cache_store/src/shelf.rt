@@ -7,7 +7,7 @@ ghost use Rattle.std.specs.Option.{option_map};
 ghost use Rattle.cache_store.specs.Shelves.{Finds, IsPair};
 ghost use Rattle.chunk_store.specs.Folders.{chunks};
 ghost use Rattle.chunk_store.specs.Gets.{GetGives};
-ghost use Rattle.chunk_store.specs.Names.{name_of};
+ghost use Rattle.chunk_store.specs.Digests.{digest_of};
 ghost use Rattle.chunk_store.specs.declared.id.DigestKind.TheVariants as kinds;
 ghost use Rattle.dir_store.specs.Puts.{LeavesTemporary, PutsAtPath};
 ghost use Rattle.dsy_base.specs.Counts.{CountsFaults};
@@ -152,7 +152,7 @@ impl<F: Folder> CacheShelf<F> {
     /// Puts the chunk of this id there, in the place of what stood there. Where the type of the folder names the chunks
     /// that it may hold, or stores, this has to be one of those chunks, and held by one of the stores.
     pub fn add(&mut self, id: &ChunkId, b: &[u8]) -> Result<(), IoFault>
-        requires named { name_of self.old.kind b.now ≡ id.now.0 }
+        requires named { digest_of self.old.kind b.now ≡ id.now.0 }
         requires listed { IfSome F.pairs (IsPair id.now.0 (length b.now)) }
         requires held { IfSome F.stores (Any (λ m. m id.now.0 ≡ Some b.now)) }
         ensures ok { OnOk result (PutsAtPath id.now.0 b.now (F.files self.old.folder) (F.files self.new.folder)) }

@@ -5,7 +5,7 @@ use Rattle.std.specs.List.{AllByRecursion}
 use Rattle.std.proofs.lemmas.Bool.Decides.{nat_tests}
 use Rattle.std.proofs.lemmas.List.{append-nil, length-append}
 use Rattle.std.proofs.lemmas.Nat.{from_le_bytes-to_le_bytes_8}
-use Rattle.chunk_store.specs.Names.{IsId}
+use Rattle.chunk_store.specs.Digests.{IsId}
 use Rattle.caibx_fields.specs.declared.fault.IndexFault.TheVariants as faults
 use Rattle.caibx_fields.specs.declared.field.Field.{Field}
 use Rattle.caibx_fields.specs.declared.field.Field.TheVariants as field

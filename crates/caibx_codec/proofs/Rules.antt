@@ -3,7 +3,7 @@ use Rattle.std.proofs.Common.{◌≡◌, ℕ, zero, suc, ◌+◌, ◌-◌, ◌<�
 use Rattle.std.proofs.lemmas.Bool.Decides.{nat_tests}
 use Rattle.std.proofs.lemmas.Bool.{cases_lt}
 use Rattle.std.proofs.lemmas.List.Elements.{All-from_recursion}
-use Rattle.chunk_store.specs.Names.{IsId}
+use Rattle.chunk_store.specs.Digests.{IsId}
 use Rattle.caibx_codec.specs.Listing.{Listing, IsValid, Rules, AreChunks, start_of, end_of, count_of}
 
 abbrev end_at : List (ℕ × List ℕ) → ℕ → ℕ

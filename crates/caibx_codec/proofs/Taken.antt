@@ -3,7 +3,7 @@ use Rattle.std.proofs.Common.{◌≡◌, ℕ, zero, suc, ◌+◌, ◌*◌, ◌<�
 use Rattle.std.specs.List.{AllByRecursion}
 use Rattle.std.proofs.lemmas.Bool.Decides.{nat_tests}
 use Rattle.std.proofs.lemmas.List.{append-nil, length-append, nil_from_length}
-use Rattle.chunk_store.specs.Names.{IsId}
+use Rattle.chunk_store.specs.Digests.{IsId}
 use Rattle.caibx_fields.specs.declared.fault.IndexFault.{IndexFault}
 use Rattle.caibx_fields.specs.declared.field.Field.{Field}
 use Rattle.caibx_fields.specs.declared.field.Field.TheVariants as field

@@ -1,7 +1,7 @@
 -- Asks of a store for the chunks that an index lists.
 use Rattle.std.specs.Prelude.{◌≡◌, ℕ, ◌<◌, List}
 use Rattle.chunk_store.specs.Asks.{Ask, Get, Has, Put}
-use Rattle.chunk_store.specs.Names.{name_of}
+use Rattle.chunk_store.specs.Digests.{digest_of}
 use Rattle.caibx_codec.specs.Listing.{Listing, count_of, id_of, kind_of}
 
 -- for the chunk of one of its entries
@@ -22,4 +22,4 @@ pub record IsListedPut (l : Listing) (a : Ask) : Type 0 where
   pub listed : entry < count_of l
   pub bytes : List ℕ
   pub asked : a ≡ Put (id_of l entry) bytes
-  pub named : name_of (kind_of l) bytes ≡ id_of l entry
+  pub named : digest_of (kind_of l) bytes ≡ id_of l entry

@@ -2,7 +2,7 @@
 use Rattle.std.specs.Prelude.{◌≡◌, ℕ, ◌+◌, ◌^◌, ◌<◌, ◌≤◌, List, [], ◌∷◌, ◌⊎◌, length, slice_index_or, slice_range, ◌-◌}
 use Rattle.std.specs.Prelude.{◌==◌, if◌then◌else◌, nat_le, bit_and}
 use Rattle.std.specs.List.{AllByRecursion}
-use Rattle.chunk_store.specs.Names.{IsId}
+use Rattle.chunk_store.specs.Digests.{IsId}
 use Rattle.chunk_store.specs.declared.id.DigestKind.{DigestKind}
 use Rattle.chunk_store.specs.declared.id.DigestKind.TheVariants as kinds
 use Rattle.caibx_fields.specs.Limits.{digest_flag, size_limit, item_limit}

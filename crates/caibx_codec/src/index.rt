@@ -3,7 +3,7 @@
 
 ghost use Rattle.std.specs.Prelude.{◌≡◌, ◌<◌, ◌≤◌, ◌+◌, ◌-◌, ◌^◌, length, map, IfOk, Ok, List, ℕ, []};
 ghost use Rattle.std.specs.List.{AllByRecursion};
-ghost use Rattle.chunk_store.specs.Names.{IsId};
+ghost use Rattle.chunk_store.specs.Digests.{IsId};
 ghost use Rattle.caibx_codec.specs.Judge.{entry_fault, Judged};
 ghost use Rattle.caibx_codec.specs.Listing.{IsValid, IsListedSize, Listing, Rules, count_of, start_of, end_of, size_of};
 ghost use Rattle.caibx_codec.specs.Listing.{id_of, kind_of, image_length};

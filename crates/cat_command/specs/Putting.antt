@@ -31,7 +31,8 @@ outcome_of_read (reads.Damaged k id s x) = ends.Damaged k id s x
 outcome_of_read (reads.StoreFault s) = ends.StoreFault s
 outcome_of_read reads.Memory = ends.Memory
 
--- the text is the n bytes from there on of each image that is right in them, but where two unequal pieces have one name
+-- the text is the n bytes from there on of each image that is right in them, but where two unequal pieces have one
+-- digest
 pub record IsText (l : Listing) (at n : ℕ) (text : List ℕ) : Type 0 where
   pub size : length text ≡ n
   pub right : (t : List ℕ) → IsRightInRange t l at n → IsRange l at n t text

@@ -4,7 +4,7 @@
 /// SHA-512/256 of `abc`.
 pub const ABC: &str = "53048e2681941ef99b2e29b76b4c7dabe4c2d0c634fc6d46e0e2f13107e7af23";
 
-/// The path of the chunk that has this name.
+/// The path of the chunk that has this digest.
 pub const ABC_PATH: &str = "5304/53048e2681941ef99b2e29b76b4c7dabe4c2d0c634fc6d46e0e2f13107e7af23";
 
 /// SHA-256 of `abc`.

@@ -8,7 +8,7 @@ use Rattle.caibx_fields.specs.Limits.{size_limit}
 use Rattle.chunk_proxy.specs.Answers.{given_or, given_by_stores}
 use Rattle.chunk_proxy.specs.Obtaining.{any_size}
 use Rattle.chunk_server.specs.Answers.{chunk_held}
-use Rattle.chunk_store.specs.Names.{name_of}
+use Rattle.chunk_store.specs.Digests.{digest_of}
 use Rattle.chunk_store.specs.declared.id.ChunkId.{ChunkId}
 use Rattle.chunk_store.specs.declared.id.DigestKind.{DigestKind}
 use Rattle.chunk_store.specs.declared.shows.Shows.{Shows}
@@ -37,21 +37,21 @@ some_first B A C k (x ∷ xs) h = omega arith
 module _ (kind : DigestKind) (id : ChunkId) where
   held_so : (b : List ℕ) → IsWanted (any_size kind id) b → chunk_held kind id.0 (Some b) ≡ Some b
   held_so b wanted =
-      both b (bytes_eq (name_of kind b) id.0) (nat_le (length b) size_limit) ((bytes_eq-Decides (name_of kind b) id.0).1 wanted.named) (below (length b) size_limit wanted.fits)
+      both b (bytes_eq (digest_of kind b) id.0) (nat_le (length b) size_limit) ((bytes_eq-Decides (digest_of kind b) id.0).1 wanted.named) (below (length b) size_limit wanted.fits)
 
   pub held_given : (o : Option (List ℕ)) (b : List ℕ) → o ≡ Some b → IsWanted (any_size kind id) b → chunk_held kind id.0 o ≡ Some b
   held_given o b is wanted = ap (chunk_held kind id.0) is ∙ held_so b wanted
 
-  held_not : (b : List ℕ) → (IsWanted (any_size kind id) b → ⊥) → (s t : Bool) → bytes_eq (name_of kind b) id.0 ≡ s → nat_le (length b) size_limit ≡ t
+  held_not : (b : List ℕ) → (IsWanted (any_size kind id) b → ⊥) → (s t : Bool) → bytes_eq (digest_of kind b) id.0 ≡ s → nat_le (length b) size_limit ≡ t
       → cond (s && t) (Some b) None ≡ None
-  held_not b not true true e f = absurd (not (record { named = (bytes_eq-Decides (name_of kind b) id.0).0 e; sized = tt; fits = at_most (length b) size_limit f }))
+  held_not b not true true e f = absurd (not (record { named = (bytes_eq-Decides (digest_of kind b) id.0).0 e; sized = tt; fits = at_most (length b) size_limit f }))
   held_not b not true false e f = refl
   held_not b not false t e f = refl
 
   -- what isn't wanted is none
   pub held_none : (o : Option (List ℕ)) → ((b : List ℕ) → o ≡ Some b → IsWanted (any_size kind id) b → ⊥) → chunk_held kind id.0 o ≡ None
   held_none None not = refl
-  held_none (Some b) not = held_not b (not b refl) (bytes_eq (name_of kind b) id.0) (nat_le (length b) size_limit) refl refl
+  held_none (Some b) not = held_not b (not b refl) (bytes_eq (digest_of kind b) id.0) (nat_le (length b) size_limit) refl refl
 
   else_not : (b : List ℕ) (x : Shows) → IsWanted (any_size kind id) b → ShowsElse (any_size kind id) b x → ⊥
   else_not b shows.Longer wanted else = absurd (omega (arith, wanted.fits, else))

@@ -19,7 +19,7 @@ abbrev pub given_or : Option (List ℕ) → Option (List ℕ) → Option (List �
 given_or None other = other
 given_or (Some b) other = Some b
 
--- the chunk that the cache holds: bytes of the name, at most 64 MiB
+-- the chunk that the cache holds: bytes of the digest, at most 64 MiB
 abbrev pub given_by_cache : DigestKind → ProxyFiles → List ℕ → Option (List ℕ)
 given_by_cache kind f id = chunk_held kind id (chunks f.cache id)
 

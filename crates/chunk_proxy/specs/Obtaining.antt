@@ -8,7 +8,7 @@ use Rattle.chunk_server.specs.Answers.{Answer, bare}
 use Rattle.chunk_server.specs.Reads.{answer_by}
 use Rattle.chunk_server.specs.declared.chunk_file.ReadMethod.{ReadMethod}
 use Rattle.chunk_server.specs.declared.chunk_file.ReadMethod.TheVariants as method
-use Rattle.chunk_store.specs.Names.{name_of}
+use Rattle.chunk_store.specs.Digests.{digest_of}
 use Rattle.chunk_store.specs.declared.id.ChunkId.{ChunkId}
 use Rattle.chunk_store.specs.declared.id.DigestKind.{DigestKind}
 use Rattle.chunk_store.specs.declared.store.Store.{Ghosts as StoreWords}
@@ -24,9 +24,9 @@ use Rattle.store_chain.specs.declared.refused.Refused.TheVariants as refused
 abbrev pub any_size : DigestKind → ChunkId → Query
 any_size kind id = query_of kind id None size_limit
 
--- the bytes have this name, and are at most 64 MiB
+-- the bytes have this digest, and are at most 64 MiB
 pub record IsRightChunk (kind : DigestKind) (id b : List ℕ) : Type 0 where
-  pub named : name_of kind b ≡ id
+  pub named : digest_of kind b ≡ id
   pub few : length b ≤ size_limit
 
 -- what the reply tells of a refusal of the stores: that there is no chunk, or that a store has failed. For want of

@@ -6,7 +6,7 @@ use Rattle.std.specs.Str.{bytes_eq}
 use Rattle.std.proofs.lemmas.Bool.{false_from_ne_true}
 use Rattle.std.proofs.lemmas.Slice.Eq.{bytes_eq-Decides}
 use Rattle.chunk_store.specs.Folders.{chunks}
-use Rattle.chunk_store.specs.Names.{name_of}
+use Rattle.chunk_store.specs.Digests.{digest_of}
 use Rattle.chunk_store.specs.Paths.{path_of}
 use Rattle.chunk_store.specs.declared.id.ChunkId.{ChunkId}
 use Rattle.chunk_store.specs.declared.id.DigestKind.{DigestKind}
@@ -64,13 +64,13 @@ module _ (kind : DigestKind) (old new : ServedFolder) (id : ChunkId) (body : Lis
 
   -- ---- what was put
 
-  named : name_of kind body ≡ id.0 → bytes_eq (name_of kind body) id.0 ≡ true
-  named is = (bytes_eq-Decides (name_of kind body) id.0).1 is
+  named : digest_of kind body ≡ id.0 → bytes_eq (digest_of kind body) id.0 ≡ true
+  named is = (bytes_eq-Decides (digest_of kind body) id.0).1 is
 
-  misnamed : name_of kind body ≢ id.0 → bytes_eq (name_of kind body) id.0 ≡ false
-  misnamed other = false_from_ne_true (bytes_eq (name_of kind body) id.0) (λ h. other ((bytes_eq-Decides (name_of kind body) id.0).0 h))
+  misnamed : digest_of kind body ≢ id.0 → bytes_eq (digest_of kind body) id.0 ≡ false
+  misnamed other = false_from_ne_true (bytes_eq (digest_of kind body) id.0) (λ h. other ((bytes_eq-Decides (digest_of kind body) id.0).0 h))
 
-  put_with : (b : Bool) → bytes_eq (name_of kind body) id.0 ≡ b → r ≡ bare (cond b 200 400) → new.files ≡ option_map (λ m. cond b (put_in m (path_of id.0) body) m) old.files → old.faults ≤ new.faults → ServesOrFails kind old (act.Put id) body r new
+  put_with : (b : Bool) → bytes_eq (digest_of kind body) id.0 ≡ b → r ≡ bare (cond b 200 400) → new.files ≡ option_map (λ m. cond b (put_in m (path_of id.0) body) m) old.files → old.faults ≤ new.faults → ServesOrFails kind old (act.Put id) body r new
   unfolding answer_to files_after
   put_with b test is files faults = inl (record {
     answer = always old.files (λ m. is ∙ ap (λ t. bare (cond t 200 400)) (sym test));
@@ -78,10 +78,10 @@ module _ (kind : DigestKind) (old new : ServedFolder) (id : ChunkId) (body : Lis
     faults = faults;
   })
 
-  pub put_goes : name_of kind body ≡ id.0 → r ≡ bare 200 → PutsAtPath id.0 body old.files new.files → old.faults ≤ new.faults → ServesOrFails kind old (act.Put id) body r new
+  pub put_goes : digest_of kind body ≡ id.0 → r ≡ bare 200 → PutsAtPath id.0 body old.files new.files → old.faults ≤ new.faults → ServesOrFails kind old (act.Put id) body r new
   put_goes is reply files faults = put_with true (named is) reply files faults
 
-  pub put_refused : name_of kind body ≢ id.0 → r ≡ bare 400 → new.files ≡ old.files → old.faults ≤ new.faults → ServesOrFails kind old (act.Put id) body r new
+  pub put_refused : digest_of kind body ≢ id.0 → r ≡ bare 400 → new.files ≡ old.files → old.faults ≤ new.faults → ServesOrFails kind old (act.Put id) body r new
   put_refused other reply files faults =
       put_with false (misnamed other) reply (files ∙ unmapped (λ m. m) old.files (λ m. refl)) faults
 

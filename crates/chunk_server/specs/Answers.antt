@@ -4,7 +4,7 @@ use Rattle.std.specs.Prelude.{ℕ, List, [], length, nat_le, if◌then◌else◌
 use Rattle.std.specs.Str.{bytes_eq}
 use Rattle.caibx_fields.specs.Limits.{size_limit}
 use Rattle.chunk_store.specs.Folders.{chunks}
-use Rattle.chunk_store.specs.Names.{name_of}
+use Rattle.chunk_store.specs.Digests.{digest_of}
 use Rattle.chunk_store.specs.Paths.{path_of}
 use Rattle.chunk_store.specs.declared.id.DigestKind.{DigestKind}
 use Rattle.dsy_base.specs.Folders.{put_in}
@@ -13,11 +13,11 @@ pub use Rattle.http_serve.specs.Answers.{Answer, bare}
 use Rattle.http_wire.specs.declared.request.Act.{Act}
 use Rattle.http_wire.specs.declared.request.Act.TheVariants as act
 
--- the chunk, where bytes are held under its id that have its name and aren't too many
+-- the chunk, where bytes are held under its id that have its digest and aren't too many
 abbrev pub chunk_held : DigestKind → List ℕ → Option (List ℕ) → Option (List ℕ)
 chunk_held kind id None = None
 chunk_held kind id (Some b) =
-    if bytes_eq (name_of kind b) id && nat_le (length b) size_limit then Some b else None
+    if bytes_eq (digest_of kind b) id && nat_le (length b) size_limit then Some b else None
 
 -- with the chunk, or with its length alone (RFC 9110, section 9.3.2)
 abbrev pub with_chunk : Option (List ℕ) → Answer
@@ -32,7 +32,7 @@ with_length (Some b) = record { status = 200; size = length b; body = [] }
 unfoldable pub answer_to : DigestKind → Map (List ℕ) → Act → List ℕ → Answer
 answer_to kind files (act.Get id) body = with_chunk (chunk_held kind id.0 (chunks files id.0))
 answer_to kind files (act.Head id) body = with_length (chunk_held kind id.0 (chunks files id.0))
-answer_to kind files (act.Put id) body = bare (if bytes_eq (name_of kind body) id.0 then 200 else 400)
+answer_to kind files (act.Put id) body = bare (if bytes_eq (digest_of kind body) id.0 then 200 else 400)
 answer_to kind files act.Lost body = bare 404
 answer_to kind files (act.Refuse status) body = bare status
 
@@ -41,6 +41,6 @@ unfoldable pub files_after : DigestKind → Map (List ℕ) → Act → List ℕ 
 files_after kind files (act.Get id) body = files
 files_after kind files (act.Head id) body = files
 files_after kind files (act.Put id) body =
-    if bytes_eq (name_of kind body) id.0 then put_in files (path_of id.0) body else files
+    if bytes_eq (digest_of kind body) id.0 then put_in files (path_of id.0) body else files
 files_after kind files act.Lost body = files
 files_after kind files (act.Refuse status) body = files

@@ -1,6 +1,6 @@
 -- What contracts see of a shelf, and how its answers change that.
 use Rattle.std.specs.Prelude.{◌≡◌, ◌≢◌, ℕ, ◌⊎◌, List, [], length, false, Option}
-use Rattle.chunk_store.specs.Names.{name_of}
+use Rattle.chunk_store.specs.Digests.{digest_of}
 use Rattle.chunk_store.specs.declared.id.DigestKind.{DigestKind}
 use Rattle.dir_store.specs.Names.{is_temporary}
 use Rattle.dsy_base.specs.Maps.{Map}
@@ -50,7 +50,7 @@ IsBare r = (r ≡ bare 400) ⊎ ((r ≡ bare 404) ⊎ (r ≡ bare 500))
 -- the chunk of this id
 pub record RepliesChunk (kind : DigestKind) (id : List ℕ) (r : Answer) : Type 0 where
   pub status : r.status ≡ 200
-  pub named : name_of kind r.body ≡ id
+  pub named : digest_of kind r.body ≡ id
   pub size : r.size ≡ length r.body
 
 -- its length
@@ -68,7 +68,7 @@ IsAnswer kind (act.Refuse status) r = r ≡ bare status
 
 -- bytes of another name than the id aren't put, whatever the folder does
 abbrev pub RefusesOtherDigest : DigestKind → Act → List ℕ → Answer → Type 0
-RefusesOtherDigest kind (act.Put id) body r = name_of kind body ≢ id.0 → r ≡ bare 400
+RefusesOtherDigest kind (act.Put id) body r = digest_of kind body ≢ id.0 → r ≡ bare 400
 RefusesOtherDigest kind (act.Get id) body r = Unit {0}
 RefusesOtherDigest kind (act.Head id) body r = Unit {0}
 RefusesOtherDigest kind act.Lost body r = Unit {0}

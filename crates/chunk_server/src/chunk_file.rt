@@ -7,7 +7,7 @@ ghost use Rattle.chunk_server.specs.Answers.{chunk_held};
 ghost use Rattle.chunk_server.specs.Reads.{ReadsFile, answer_by, asked_by};
 ghost use Rattle.chunk_server.specs.Shelves.{IsAnswer, ServedFolder, ServesOrFails, answer_in, shelved};
 ghost use Rattle.chunk_store.specs.Gets.{GetGives};
-ghost use Rattle.chunk_store.specs.Names.{name_of};
+ghost use Rattle.chunk_store.specs.Digests.{digest_of};
 
 use crate::shelf::Reply;
 use chunk_store::id::{ChunkId, DigestKind};
@@ -118,7 +118,7 @@ impl ChunkFile {
     fn chunk(&self, kind: DigestKind, id: &ChunkId) -> Result<Option<&[u8]>, IoFault>
         ensures found { IfOk result (λ o. (held : Option (List ℕ)) → GetGives held self.now.outcome self.now.bytes
             → chunk_held kind id.now.0 held ≡ option_map (λ b. b.now) o) }
-        ensures named { IfOk result (λ o. IfSome o (λ b. name_of kind b.now ≡ id.now.0)) }
+        ensures named { IfOk result (λ o. IfSome o (λ b. digest_of kind b.now ≡ id.now.0)) }
         ensures only { result ≡ Err IoFault.Failed → self.now.outcome ≡ Err GetFault.Failed }
         ensures unfailed { result ≢ Err IoFault.Failed → self.now.outcome ≢ Err GetFault.Failed }
     {

@@ -6,7 +6,7 @@ ghost use Rattle.chunk_server.specs.Reads.{ReadsFile};
 ghost use Rattle.chunk_server.specs.Shelves.{AreAlikeButTemporaries, IsAnswer, RefusesOtherDigest, ServesOrFails};
 ghost use Rattle.chunk_server.specs.Shelves.{IsUnfailed, answer_in, shelved};
 ghost use Rattle.chunk_store.specs.Kinds.{kind_named};
-ghost use Rattle.chunk_store.specs.Names.{name_of};
+ghost use Rattle.chunk_store.specs.Digests.{digest_of};
 ghost use Rattle.chunk_store.specs.declared.id.DigestKind.TheVariants as kinds;
 ghost use Rattle.http_wire.specs.Request.{is_refusal};
 
@@ -103,7 +103,7 @@ impl<F: Folder> ShelfState<F> {
 
     /// Puts a body under its digest: the half of the answer to a PUT for which the folder is needed.
     pub fn put(&mut self, id: &ChunkId, body: &[u8]) -> Result<Reply, Memory>
-        requires named { name_of self.old.kind body.now ≡ id.now.0 }
+        requires named { digest_of self.old.kind body.now ≡ id.now.0 }
         ensures only { IfOk result (λ r. IsAnswer self.old.kind (Act.Put id.now) (answer_in r)) }
         ensures ok { IfOk result (λ r. ServesOrFails self.old.kind
             (shelved F.files F.faults self.old.folder) (Act.Put id.now) body.now
@@ -123,9 +123,9 @@ impl<F: Folder> ShelfState<F> {
         }
     }
 
-    /// Answers a request. GET: 200 with the chunk where bytes of its name are held under the id, at most 64 MiB, else
-    /// 404. HEAD: the same without the chunk. PUT: 400 where the body has another name than the id, else 200 once it is
-    /// held. A target that is no chunk's path: 404. 500: a call on the folder has failed.
+    /// Answers a request. GET: 200 with the chunk where bytes of its digest are held under the id, at most 64 MiB, else
+    /// 404. HEAD: the same without the chunk. PUT: 400 where the body has another digest than the id, else 200 once it
+    /// is held. A target that is no chunk's path: 404. 500: a call on the folder has failed.
     pub fn apply(&mut self, act: &Act, body: &[u8]) -> Result<Reply, Memory>
         requires taken { is_refusal act.now ≡ false }
         requires size { length body.now ≤ size_limit }

@@ -16,7 +16,7 @@ use Rattle.chunk_sources.specs.Caches.{OthersAddOnly, AddsSize, CacheFailed, Cac
 use Rattle.chunk_sources.specs.Economy.{AnsweredAs, ObtainedBy, as_upstream, source_behind}
 use Rattle.chunk_sources.specs.Losses.{chunk_of}
 use Rattle.chunk_store.specs.Folders.{chunks}
-use Rattle.chunk_store.specs.Names.{name_of}
+use Rattle.chunk_store.specs.Digests.{digest_of}
 use Rattle.chunk_store.specs.declared.id.ChunkId.{ChunkId}
 use Rattle.chunk_store.specs.declared.id.DigestKind.{DigestKind}
 use Rattle.chunk_store.specs.declared.store.Store.{Ghosts as StoreWords}
@@ -55,7 +55,7 @@ unfound_failed kind id size old new same digest unfound = go old.others old.file
   adds_wanted o digest sized b adds =
       let size_is : length b ≡ size = sized b adds in
       let kind_is : o.kind ≡ kind = sym digest ∙ same in
-      record { named = subst (λ (k : DigestKind). name_of k b ≡ id.0) kind_is adds.named; sized = size_is; fits = omega (arith, size_is) }
+      record { named = subst (λ (k : DigestKind). digest_of k b ≡ id.0) kind_is adds.named; sized = size_is; fits = omega (arith, size_is) }
 
   go : (x : Option Others) (o : Option (Map (List ℕ))) → IfSome x (λ o. old.kind ≡ o.kind)
       → IfSome (option_map chunks o) (λ m. GivesStill x (chunk_of kind id size) m → Rose old.faults new.faults)

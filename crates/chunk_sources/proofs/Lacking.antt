@@ -7,7 +7,7 @@ use Rattle.cache_store.specs.Giving.{SomeGives}
 use Rattle.chunk_sources.specs.Losses.{chunk_of}
 use Rattle.chunk_sources.specs.Sources.{HeldAt, SeedsFailed, SeedsGive}
 use Rattle.chunk_store.specs.Giving.{GivesChunk}
-use Rattle.chunk_store.specs.Names.{name_of}
+use Rattle.chunk_store.specs.Digests.{digest_of}
 use Rattle.chunk_store.specs.declared.id.ChunkId.{ChunkId}
 use Rattle.chunk_store.specs.declared.id.DigestKind.{DigestKind}
 use Rattle.chunk_store.specs.declared.shows.Shows.{Shows}
@@ -84,7 +84,7 @@ module _ (kind : DigestKind) (id : ChunkId) (size : ℕ) where
   else_shown b shows.Longer more (e, held, is) = let same : b ≡ e = same_Some b e held in omega (arith, more, ap (λ xs. length xs) same, is.sized)
   else_shown b (shows.Digest x) shown (e, held, is) =
       let same : b ≡ e = same_Some b e held in
-      shown.2 (shown.1 ∙ subst (λ (y : List ℕ). name_of kind y ≡ id.0) (sym same) is.named)
+      shown.2 (shown.1 ∙ subst (λ (y : List ℕ). digest_of kind y ≡ id.0) (sym same) is.named)
   else_shown b (shows.Length n) shown (e, held, is) =
       let same : b ≡ e = same_Some b e held in
       shown.3 (shown.2 ∙ ap (λ xs. length xs) same ∙ is.sized)

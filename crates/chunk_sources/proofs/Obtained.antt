@@ -4,7 +4,7 @@ use Rattle.std.specs.List.{Any}
 use Rattle.caibx_codec.specs.Listing.{Listing, id_of, kind_of}
 use Rattle.chunk_sources.specs.Losses.{chunk_of}
 use Rattle.chunk_sources.specs.Wants.{AllOf, IsAmong}
-use Rattle.chunk_store.specs.Names.{name_of}
+use Rattle.chunk_store.specs.Digests.{digest_of}
 use Rattle.chunk_store.specs.declared.id.ChunkId.{ChunkId}
 use Rattle.chunk_store.specs.declared.id.DigestKind.{DigestKind}
 use Rattle.dsy_base.specs.Maps.{Map}
@@ -17,8 +17,8 @@ pub holds_gives : (kind : DigestKind) (id : ChunkId) (size : ℕ) (maps : List (
 holds_gives kind id size maps b right (k, m, inside, at, held) = (k, m, inside, at, (b, held, record { named = right.named; sized = right.sized }))
 
 -- bytes that have the digest of one of these entries have that of the chunk
-pub among_named : (l : Listing) (id : List ℕ) (size : ℕ) (entries : List ℕ) → AllOf l id size entries → (b : List ℕ) (i : ℕ) → IsAmong entries i → name_of (kind_of l) b ≡ id_of l i
-    → name_of (kind_of l) b ≡ id
+pub among_named : (l : Listing) (id : List ℕ) (size : ℕ) (entries : List ℕ) → AllOf l id size entries → (b : List ℕ) (i : ℕ) → IsAmong entries i → digest_of (kind_of l) b ≡ id_of l i
+    → digest_of (kind_of l) b ≡ id
 among_named l id size entries are b i among named = named ∙ (ap (id_of l) (sym among.2) ∙ (are among.0 among.1).id_is)
 
 -- what is known of the kind and size that were asked for is known of those that are sought

@@ -13,7 +13,7 @@ use Rattle.chunk_sources.specs.Economy.{AnsweredAs, AnsweredBy, ObtainedBy, as_u
 use Rattle.chunk_sources.specs.Sources.{GivesAt, HeldAt, SeedsGive}
 use Rattle.chunk_sources.specs.Wants.{IsAmong, Wanted}
 use Rattle.chunk_store.specs.Giving.{GivesChunk, IsChunk}
-use Rattle.chunk_store.specs.Names.{name_of}
+use Rattle.chunk_store.specs.Digests.{digest_of}
 use Rattle.chunk_store.specs.declared.id.DigestKind.{DigestKind}
 use Rattle.dsy_base.specs.Bytes.{Held}
 use Rattle.dsy_base.specs.Counts.{raised}
@@ -57,9 +57,9 @@ right_same f g es same = elim (cases_Bool (list_any f es)) [
 
 -- ---- seeds
 
-told_decides : (o : Option (List ℕ)) (p : SeedPlace) (id : List ℕ) → Decides (told_at o p id) (IsSomeAnd o (λ t. name_of p.kind (bytes_at p t) ≡ id))
+told_decides : (o : Option (List ℕ)) (p : SeedPlace) (id : List ℕ) → Decides (told_at o p id) (IsSomeAnd o (λ t. digest_of p.kind (bytes_at p t) ≡ id))
 told_decides None p id = (λ e. absurd (false≢true e), λ never. absurd never)
-told_decides (Some t) p id = bytes_eq-Decides (name_of p.kind (bytes_at p t)) id
+told_decides (Some t) p id = bytes_eq-Decides (digest_of p.kind (bytes_at p t)) id
 
 given_decides : (o : Option Held) (p : SeedPlace) (id : List ℕ) → Decides (given_at o p id) (GivesAt o p id)
 given_decides None p id = (λ e. absurd (false≢true e), λ never. absurd never)
@@ -76,7 +76,7 @@ seeds_decide views places id =
 chunk_decides : (kind : DigestKind) (id : List ℕ) (size : ℕ) (o : Option (List ℕ)) → Decides (is_chunk kind id size o) (GivesChunk kind id size o)
 chunk_decides kind id size None = (λ e. absurd (false≢true e), λ gives. absurd (none-some gives.0 gives.1))
 chunk_decides kind id size (Some b) =
-    let both = Decides-and (bytes_eq (name_of kind b) id) (length b == size) (bytes_eq-Decides (name_of kind b) id) (Decides-eqb (length b) size) in (
+    let both = Decides-and (bytes_eq (digest_of kind b) id) (length b == size) (bytes_eq-Decides (digest_of kind b) id) (Decides-eqb (length b) size) in (
       λ e. let is = both.0 e in (b, refl, record { named = is.0; sized = is.1 }),
       λ gives.
           let is = subst (IsChunk kind id size) (sym (same_Some b gives.0 gives.1)) gives.2 in

@@ -5,7 +5,7 @@ use Rattle.std.proofs.lemmas.List.{get_or-map, get_or_default}
 use Rattle.std.specs.List.{Any}
 use Rattle.std.specs.Option.{option_map}
 use Rattle.chunk_sources.specs.Sources.{GivesAt, HeldAt, Telling}
-use Rattle.chunk_store.specs.Names.{name_of}
+use Rattle.chunk_store.specs.Digests.{digest_of}
 use Rattle.dsy_base.proofs.Counts.{rose_later}
 use Rattle.dsy_base.specs.Bytes.{Held}
 use Rattle.dsy_base.specs.Counts.{Rose}
@@ -33,10 +33,10 @@ none_falls f (x ∷ xs) (suc i) d y le zero = omega arith
 none_falls f (x ∷ xs) (suc i) d y le (suc k) = none_falls f xs i d y le k
 
 -- bytes that are told to have the id are named so
-are_named : (bytes : Option (List ℕ)) (p : SeedPlace) (id out : List ℕ) → IfSome bytes (λ t. out ≡ bytes_at p t) → IsSomeAnd bytes (λ t. name_of p.kind (bytes_at p t) ≡ id)
-    → name_of p.kind out ≡ id
+are_named : (bytes : Option (List ℕ)) (p : SeedPlace) (id out : List ℕ) → IfSome bytes (λ t. out ≡ bytes_at p t) → IsSomeAnd bytes (λ t. digest_of p.kind (bytes_at p t) ≡ id)
+    → digest_of p.kind out ≡ id
 are_named None p id out is gives = absurd gives
-are_named (Some t) p id out is gives = ap (name_of p.kind) is ∙ gives
+are_named (Some t) p id out is gives = ap (digest_of p.kind) is ∙ gives
 
 -- a view that answers so doesn't have the chunk
 lacks : (held : Held) (p : SeedPlace) (id out : List ℕ) → GivesNot held p id out → GivesAt (Some held) p id → ⊥
@@ -97,9 +97,9 @@ given_at tells held told None views p id out inside at value telling = let no : 
 given_at tells held told (Some v) views p id out inside at value telling =
     let some : Any (λ (w : Option Held). IsSome w) views = any_at (λ (w : Option Held). IsSome w) views p.seed None inside (subst (λ (w : Option Held). IsSome w) (sym at) refl) in
     subst (λ w. GivesAt w p id) (sym at) (value.inside, gives (held v).bytes (subst (λ (b : Bool). IsTrue b) (sym (told v)) (telling some)) value.named value.bytes) where
-      gives : (bytes : Option (List ℕ)) → IsTrue (is_some bytes) → name_of p.kind out ≡ id → IfSome bytes (λ t. out ≡ bytes_at p t) → IsSomeAnd bytes (λ t. name_of p.kind (bytes_at p t) ≡ id)
+      gives : (bytes : Option (List ℕ)) → IsTrue (is_some bytes) → digest_of p.kind out ≡ id → IfSome bytes (λ t. out ≡ bytes_at p t) → IsSomeAnd bytes (λ t. digest_of p.kind (bytes_at p t) ≡ id)
       gives None some named is = let no : false ≡ true = some in absurd (cc)
-      gives (Some t) some named is = ap (name_of p.kind) (sym is) ∙ named
+      gives (Some t) some named is = ap (digest_of p.kind) (sym is) ∙ named
 
 -- where seeds hold what they held, the type tells so still
 pub telling_on : (tells : Bool) (views after : List (Option Held)) → after ≡ views → Telling tells views → Telling tells after

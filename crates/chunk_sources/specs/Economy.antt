@@ -5,7 +5,7 @@ use Rattle.std.specs.Prelude.{false, if◌then◌else◌, Option, Some, None, Re
 use Rattle.std.specs.List.{list_any}
 use Rattle.std.specs.Str.{bytes_eq}
 use Rattle.chunk_sources.specs.Wants.{Task, Wanted, want_chunk}
-use Rattle.chunk_store.specs.Names.{name_of}
+use Rattle.chunk_store.specs.Digests.{digest_of}
 use Rattle.chunk_store.specs.declared.id.DigestKind.{DigestKind}
 use Rattle.dsy_base.specs.Bytes.{Held}
 use Rattle.dsy_base.specs.Counts.{raised}
@@ -24,7 +24,7 @@ use Rattle.store_chain.specs.declared.refused.Refused.TheVariants as refused
 -- whether these bytes have the id at the place, by the place's kind
 abbrev pub told_at : Option (List ℕ) → SeedPlace → List ℕ → Bool
 told_at None p id = false
-told_at (Some t) p id = bytes_eq (name_of p.kind (bytes_at p t)) id
+told_at (Some t) p id = bytes_eq (digest_of p.kind (bytes_at p t)) id
 
 -- whether a view that holds this gives the id from the place
 abbrev pub given_at : Option Held → SeedPlace → List ℕ → Bool
@@ -38,7 +38,7 @@ seeds_give views places id = list_any (λ p. given_at (slice_index_or views p.se
 -- whether what a store holds is the chunk of this id and size
 abbrev pub is_chunk : DigestKind → List ℕ → ℕ → Option (List ℕ) → Bool
 is_chunk kind id size None = false
-is_chunk kind id size (Some b) = bytes_eq (name_of kind b) id && length b == size
+is_chunk kind id size (Some b) = bytes_eq (digest_of kind b) id && length b == size
 
 -- whether the cache or one of the stores gives it, which hold these maps
 abbrev pub stores_give : DigestKind → List ℕ → ℕ → List (Map (List ℕ)) → Bool

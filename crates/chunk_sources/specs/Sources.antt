@@ -4,7 +4,7 @@ use Rattle.std.specs.Prelude.{IsSome, IsTrue}
 use Rattle.std.specs.List.{All, Any}
 use Rattle.cache_store.specs.Shelves.{Shelf}
 use Rattle.chunk_sources.specs.Caches.{cache_faults, cached_in}
-use Rattle.chunk_store.specs.Names.{name_of}
+use Rattle.chunk_store.specs.Digests.{digest_of}
 use Rattle.chunk_store.specs.declared.store.Store.{Ghosts as StoreWords}
 use Rattle.dsy_base.specs.Bytes.{Held}
 use Rattle.dsy_base.specs.Counts.{Quiet, Rose}
@@ -19,7 +19,7 @@ use Rattle.store_chain.specs.Faults.{EachQuiet, NoneFalls}
 -- a view with this stands at the place, inside it, and the bytes there are told and have the id, by the place's kind
 abbrev pub GivesAt : Option Held → SeedPlace → List ℕ → Type 0
 GivesAt None p id = ⊥
-GivesAt (Some h) p id = (place_end p ≤ h.size) × IsSomeAnd h.bytes (λ t. name_of p.kind (bytes_at p t) ≡ id)
+GivesAt (Some h) p id = (place_end p ≤ h.size) × IsSomeAnd h.bytes (λ t. digest_of p.kind (bytes_at p t) ≡ id)
 
 -- one of the seeds, whose views hold this, gives the id from one of the places
 abbrev pub HeldAt : List (Option Held) → SeedPlace → List ℕ → Type 0

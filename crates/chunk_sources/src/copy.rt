@@ -3,7 +3,7 @@
 ghost use Rattle.std.specs.Prelude.{◌≡◌, ℕ, ◌<◌, ◌≤◌, length, slice_index, IfSome, IsTrue, true, false};
 ghost use Rattle.caibx_codec.specs.Listing.{count_of, id_of, kind_of, size_of, slice_of};
 ghost use Rattle.chunk_sources.specs.Wants.{IsAmong};
-ghost use Rattle.chunk_store.specs.Names.{name_of};
+ghost use Rattle.chunk_store.specs.Digests.{digest_of};
 ghost use Rattle.dsy_base.specs.Counts.{Rose};
 ghost use Rattle.range_survey.specs.Fates.{settled};
 
@@ -18,7 +18,7 @@ pub(crate) fn copy<E: Ledger>(entries: &[u32], ledger: &mut E, chunk: &mut [u8])
     ensures found { result ≡ true → (i : ℕ) × IsAmong entries.now i × (settled (E.fates ledger.old) i ≡ true)
         × IfSome (E.held ledger.old).bytes (λ t. chunk.new ≡ slice_of E.run.listing t i) }
     ensures named { result ≡ true → IsTrue E.tells → (i : ℕ) × IsAmong entries.now i
-        × (name_of (kind_of E.run.listing) chunk.new ≡ id_of E.run.listing i) }
+        × (digest_of (kind_of E.run.listing) chunk.new ≡ id_of E.run.listing i) }
     ensures absent { result ≡ false → (i : ℕ) → IsAmong entries.now i → settled (E.fates ledger.old) i ≡ true →
         Rose (E.faults ledger.old) (E.faults ledger.new) }
     ensures kept { E.held ledger.new ≡ E.held ledger.old }

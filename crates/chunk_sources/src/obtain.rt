@@ -12,7 +12,7 @@ ghost use Rattle.chunk_sources.specs.Losses.{AskedLast, Had, MayLack, RefusedBy,
 ghost use Rattle.chunk_sources.specs.Sources.{KeepsSeeds, SourcesQuiet, Telling, sources, views_of};
 ghost use Rattle.chunk_sources.specs.Wants.{AllOf, sought_chunk};
 ghost use Rattle.chunk_store.specs.Asks.{Get};
-ghost use Rattle.chunk_store.specs.Names.{name_of};
+ghost use Rattle.chunk_store.specs.Digests.{digest_of};
 ghost use Rattle.dsy_base.specs.Maps.{Map};
 ghost use Rattle.extract_plan.specs.Places.{PlacesFit};
 ghost use Rattle.range_survey.specs.Fates.{is_made, is_settled, settled};
@@ -58,7 +58,7 @@ pub fn obtain<E: Ledger, S: Store, V: View, C: Cache>(
         sought.now.id.0 (length chunk.old) chain.old.stores sought.now.id.0 b → MayAdd chain.old.kind C.pairs
         C.stores sought.now.id.0 b) }
     requires cache { IfSome (seen_in C.Cache cache.old) (λ s. s.kind ≡ chain.old.kind) }
-    ensures ok { OnOk result (IsTrue E.tells → name_of (kind_of E.run.listing) chunk.new ≡ sought.now.id.0) }
+    ensures ok { OnOk result (IsTrue E.tells → digest_of (kind_of E.run.listing) chunk.new ≡ sought.now.id.0) }
     ensures origin { IfOk result (λ f. is_settled f ≡ true) }
     ensures made { IfOk result (λ f. is_made f ≡ true) }
     ensures had { Telling V.tells (views_of V.View seeds.old) → (cached maps : List (Map (List ℕ))) →

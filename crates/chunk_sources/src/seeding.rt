@@ -3,7 +3,7 @@
 ghost use Rattle.std.specs.Prelude.{◌≡◌, ◌<◌, length, map, slice_index, true, false};
 ghost use Rattle.std.specs.List.{All};
 ghost use Rattle.chunk_sources.specs.Sources.{HeldAt, SeedsFailed, SeedsGive, Telling, counts_of, views_of};
-ghost use Rattle.chunk_store.specs.Names.{name_of};
+ghost use Rattle.chunk_store.specs.Digests.{digest_of};
 ghost use Rattle.chunk_store.specs.declared.id.DigestKind.{DigestKind};
 ghost use Rattle.dsy_base.specs.Counts.{Rose};
 ghost use Rattle.store_chain.specs.Faults.{NoneFalls};
@@ -21,7 +21,7 @@ fn from_seed<V: View>(
 ) -> bool
     requires seed { place.now.seed < length seeds.old }
     requires size { place.now.size ≡ length chunk.old }
-    ensures ok { result ≡ true → name_of place.now.kind chunk.new ≡ id.now.0 }
+    ensures ok { result ≡ true → digest_of place.now.kind chunk.new ≡ id.now.0 }
     ensures found { result ≡ true → Telling V.tells (views_of V.View seeds.old) →
         HeldAt (views_of V.View seeds.old) place.now id.now.0 }
     ensures absent { result ≡ false → HeldAt (views_of V.View seeds.old) place.now id.now.0 → Rose
@@ -46,7 +46,7 @@ pub fn from_seeds<V: View>(
 ) -> bool
     requires { All (λ p. (p.seed < length seeds.old) × (p.size ≡ length chunk.old)) places.now }
     ensures ok { result ≡ true → (kind : DigestKind) → All (λ p. p.kind ≡ kind) places.now →
-        name_of kind chunk.new ≡ id.now.0 }
+        digest_of kind chunk.new ≡ id.now.0 }
     ensures found { result ≡ true → Telling V.tells (views_of V.View seeds.old) →
         SeedsGive (views_of V.View seeds.old) places.now id.now.0 }
     ensures absent { result ≡ false → SeedsFailed (views_of V.View seeds.old) places.now id.now.0

@@ -11,7 +11,7 @@ ghost use Rattle.chunk_sources.specs.Caches.{cache_faults, cached_in, given_maps
 ghost use Rattle.chunk_sources.specs.Economy.{AnsweredAs, ObtainedBy, as_upstream, source_behind};
 ghost use Rattle.chunk_sources.specs.Losses.{MayLack, RefusedBy, chunk_of};
 ghost use Rattle.chunk_store.specs.Asks.{Get};
-ghost use Rattle.chunk_store.specs.Names.{name_of};
+ghost use Rattle.chunk_store.specs.Digests.{digest_of};
 ghost use Rattle.dsy_base.specs.Counts.{Quiet};
 ghost use Rattle.dsy_base.specs.Maps.{Map};
 ghost use Rattle.range_survey.specs.Fates.{is_made, is_settled};
@@ -41,7 +41,7 @@ fn from_cache<S: Store, C: Cache>(
     requires own { (C.shelf cache.old).others ≡ None → (C.pairs ≡ None) × (C.stores ≡ None) }
     requires takes { IfShared (Some (C.shelf cache.old)) ((b : List ℕ) → TakesChunk S.Store chain.old.kind id.now.0
         (length chunk.old) chain.old.stores id.now.0 b → MayAdd chain.old.kind C.pairs C.stores id.now.0 b) }
-    ensures ok { OnOk result (name_of chain.old.kind chunk.new ≡ id.now.0) }
+    ensures ok { OnOk result (digest_of chain.old.kind chunk.new ≡ id.now.0) }
     ensures origin { IfOk result (λ f. is_settled f ≡ true) }
     ensures made { IfOk result (λ f. is_made f ≡ true) }
     ensures had { (cached maps : List (Map (List ℕ))) → given_maps (Some (C.shelf cache.old)) ≡ Some cached →
@@ -102,7 +102,7 @@ pub(crate) fn from_upstream<S: Store, C: Cache>(
         (length chunk.old) chain.old.stores id.now.0 b → MayAdd chain.old.kind C.pairs C.stores id.now.0 b) }
     requires kind { IfSome (seen_in C.Cache cache.old) (λ s. s.kind ≡ chain.old.kind) }
     requires asks { chain.old.asks < 2 ^ 64 }
-    ensures ok { OnOk result (name_of chain.old.kind chunk.new ≡ id.now.0) }
+    ensures ok { OnOk result (digest_of chain.old.kind chunk.new ≡ id.now.0) }
     ensures origin { IfOk result (λ f. is_settled f ≡ true) }
     ensures made { IfOk result (λ f. is_made f ≡ true) }
     ensures had { (cached maps : List (Map (List ℕ))) → given_maps (seen_in C.Cache cache.old) ≡ Some

@@ -3,7 +3,7 @@ use Rattle.std.proofs.Common.{◌≡◌, ℕ, List, length, Ok, Err, true, false
 use Rattle.std.specs.Prelude.{IsOk}
 use Rattle.std.specs.List.{AllPass}
 use Rattle.std.specs.Result.{result_unwrap_or}
-use Rattle.chunk_store.specs.Names.{IsId}
+use Rattle.chunk_store.specs.Digests.{IsId}
 use Rattle.hex.specs.Hex.{decode_sized, encode_lower, is_hex_digit}
 use Rattle.hex.specs.declared.error.FromHexError.{FromHexError}
 use Rattle.hex.proofs.HexLemmas.{IsOk-decode_sized, decode_sized-encode_lower}

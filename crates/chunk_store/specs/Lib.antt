@@ -1,6 +1,6 @@
 pub mod Causes
 pub mod Kinds
-pub mod Names
+pub mod Digests
 pub mod Paths
 pub mod Said
 pub mod Asks

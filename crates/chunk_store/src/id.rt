@@ -3,7 +3,7 @@
 ghost use Rattle.std.specs.Prelude.{◌≡◌, ◌≢◌, ◌↔◌, ℕ, List, length, true, false, IsTrue, IsOk, IfOk, IsOkAnd};
 ghost use Rattle.std.specs.List.{AllPass, list_all};
 ghost use Rattle.hex.specs.Hex.{decode_of, encode_lower, is_hex_digit};
-ghost use Rattle.chunk_store.specs.Names.{IsId, name_of};
+ghost use Rattle.chunk_store.specs.Digests.{IsId, digest_of};
 ghost use Rattle.chunk_store.specs.Paths.{path_of};
 ghost use Rattle.dsy_base.specs.Folders.{IsChunkPath, is_digit};
 
@@ -40,7 +40,7 @@ fn digits_of(bytes: &[u8; 32]) -> [u8; 64]
 impl ChunkId {
     /// The id of the bytes.
     pub fn of(kind: DigestKind, bytes: &[u8]) -> ChunkId
-        ensures { result.0 ≡ name_of kind bytes.now }
+        ensures { result.0 ≡ digest_of kind bytes.now }
     {
         match kind {
             DigestKind::Sha512T256 => ChunkId(Sha512_256::digest(bytes)),
@@ -58,8 +58,8 @@ impl ChunkId {
 
     /// Whether this is the id of the bytes.
     pub fn is_of(&self, kind: DigestKind, bytes: &[u8]) -> bool
-        ensures named { result ≡ true → name_of kind bytes.now ≡ self.now.0 }
-        ensures only { result ≡ false → name_of kind bytes.now ≢ self.now.0 }
+        ensures named { result ≡ true → digest_of kind bytes.now ≡ self.now.0 }
+        ensures only { result ≡ false → digest_of kind bytes.now ≢ self.now.0 }
     {
         ChunkId::of(kind, bytes).is(self)
     }

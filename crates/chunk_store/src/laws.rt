@@ -1,7 +1,7 @@
 //! Laws of ids and their paths, for the crates above. Nothing is done: each function's contract is the law.
 
 ghost use Rattle.std.specs.Prelude.{◌≡◌, ◌≢◌, ℕ, List, IsTrue};
-ghost use Rattle.chunk_store.specs.Names.{IsId};
+ghost use Rattle.chunk_store.specs.Digests.{IsId};
 ghost use Rattle.chunk_store.specs.Paths.{path_of};
 ghost use Rattle.dsy_base.specs.Folders.{temporary_of};
 ghost use Rattle.dsy_base.specs.Maps.{is_listed};

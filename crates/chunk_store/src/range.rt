@@ -1,7 +1,7 @@
 //! Reading the range of a chunk and naming it. Offsets are bytes from 0.
 
 ghost use Rattle.std.specs.Prelude.{◌≡◌, ◌+◌, ◌≤◌, length, slice_range, IfOk, IfSome, OnOk};
-ghost use Rattle.chunk_store.specs.Names.{name_of};
+ghost use Rattle.chunk_store.specs.Digests.{digest_of};
 ghost use Rattle.dsy_base.specs.Counts.{CountsRefusals};
 
 use crate::id::{ChunkId, DigestKind};
@@ -16,7 +16,7 @@ pub fn name_range<V: View>(
     out: &mut [u8],
 ) -> Result<ChunkId, Failed>
     requires inside { at + length out.old ≤ (V.held view.old).size }
-    ensures value { IfOk result (λ id. id.0 ≡ name_of kind out.new) }
+    ensures value { IfOk result (λ id. id.0 ≡ digest_of kind out.new) }
     ensures bytes { OnOk result (IfSome (V.held view.old).bytes
         (λ t. out.new ≡ slice_range t at (at + length out.old))) }
     ensures kept { V.held view.new ≡ V.held view.old }

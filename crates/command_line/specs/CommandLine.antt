@@ -24,7 +24,7 @@ use Rattle.command_words.specs.Locations.{location_of, parts_of}
 use Rattle.command_words.specs.OptionTable.{command_named}
 use Rattle.command_words.specs.Roles.{WordsByRole, by_role, times_of_role, words_as, word_as}
 use Rattle.command_line.specs.Values.{number_in_word, workers_of, retries_of, byte_count_of, sizes_of, listen_of}
-use Rattle.command_line.specs.Values.{digest_of}
+use Rattle.command_line.specs.Values.{kind_in_word}
 
 -- ---- what words that have passed say, by their roles
 
@@ -68,7 +68,7 @@ sizes p = unwrap_or (sizes_of (value option.ChunkSize p)) (16384 ∷ 65536 ∷ 2
 
 -- SHA-512/256 where none is named
 abbrev pub digest : WordsByRole → DigestKind
-digest p = unwrap_or (digest_of (value option.Digest p)) kinds.Sha512T256
+digest p = unwrap_or (kind_in_word (value option.Digest p)) kinds.Sha512T256
 
 abbrev pub address : WordsByRole → List ℕ × ℕ
 address p = unwrap_or (listen_of (value option.Listen p)) ([], 0)

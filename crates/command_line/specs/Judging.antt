@@ -25,7 +25,7 @@ use Rattle.command_words.specs.Locations.{location_of, parts_of, is_index_url, i
 use Rattle.command_words.specs.OptionTable.{takes_of, takes_groups, times_of}
 use Rattle.command_words.specs.Roles.{WordsByRole, by_role, awaited, role_of, roles_of, times_of_role, words_as}
 use Rattle.command_line.specs.Values.{number_in_word, workers_of, retries_of, byte_count_of, sizes_of, listen_of}
-use Rattle.command_line.specs.Values.{is_seed, digest_of}
+use Rattle.command_line.specs.Values.{is_seed, kind_in_word}
 
 -- ---- one word
 
@@ -76,7 +76,7 @@ value_refusal k n option.Concurrency w = unless (is_some (workers_of w)) why.Bad
 value_refusal k n option.Cache w = unless (not (is_empty w)) why.Empty
 value_refusal k n option.Seed w = name_refusal (is_empty w) (is_seed w) why.BadSeed
 value_refusal k n option.Listen w = unless (is_some (listen_of w)) why.BadListen
-value_refusal k n option.Digest w = unless (is_some (digest_of w)) why.BadDigest
+value_refusal k n option.Digest w = unless (is_some (kind_in_word w)) why.BadDigest
 value_refusal k n option.Offset w = unless (is_some (byte_count_of w)) why.BadNumber
 value_refusal k n option.Length w = unless (is_some (byte_count_of w)) why.BadNumber
 value_refusal k n option.Retries w = unless (is_some (retries_of w)) why.BadNumber

@@ -84,7 +84,7 @@ abbrev pub is_seed : List ℕ → Bool
 is_seed w = ends_in_caibx w && not (is_index_url w)
 
 -- the kind of digest, by --digest: SHA-512/256 or SHA-256 (FIPS 180-4)
-abbrev pub digest_of : List ℕ → Option DigestKind
-digest_of w =
+abbrev pub kind_in_word : List ℕ → Option DigestKind
+kind_in_word w =
     if bytes_eq w (codes "sha512-256") then Some kinds.Sha512T256
     else (if bytes_eq w (codes "sha256") then Some kinds.Sha256 else None)

@@ -6,7 +6,7 @@ ghost use Rattle.std.specs.Path.{rfind_below};
 ghost use Rattle.std.specs.Str.{IsCharBoundary};
 ghost use Rattle.command_line.specs.Values.{with_digit, with_digits, number_up_to, number_in_word, workers_of};
 ghost use Rattle.command_line.specs.Values.{retries_of, split_at, byte_count_of};
-ghost use Rattle.command_line.specs.Values.{kib_of, sizes_of, listen_of, ends_in_caibx, is_seed, digest_of};
+ghost use Rattle.command_line.specs.Values.{kib_of, sizes_of, listen_of, ends_in_caibx, is_seed, kind_in_word};
 
 use chunk_store::id::DigestKind;
 use command_words::location::is_index_url;
@@ -154,7 +154,7 @@ pub fn is_seed(word: &str) -> bool
 
 /// The kind of digest that the word names.
 pub fn digest(word: &str) -> Option<DigestKind>
-    ensures { result ≡ digest_of word.now }
+    ensures { result ≡ kind_in_word word.now }
 {
     match word {
         "sha512-256" => Some(DigestKind::Sha512T256),

@@ -150,7 +150,7 @@ fn add_damaged(line: &mut Line, entry: u64, id: &ChunkId, store: u32) -> Result<
     line.add_number(store as u64)
 }
 
-// The chunk of the entry has another name than the listed id.
+// The chunk of the entry has another digest than the listed id.
 fn add_mismatch(line: &mut Line, entry: u64, got: &ChunkId) -> Result<(), Memory>
     ensures { AddsToLine (codes "entry " ++ (decimal entry ++ (codes " has the name " ++ encode_lower got.now.0))) 124
         line.old line.new result }

@@ -44,7 +44,7 @@ pub enum Outcome {
         store: u32,
         shows: Shows,
     },
-    /// The chunk of this entry has the name `got`, and the index lists another.
+    /// The chunk of this entry has the digest `got`, and the index lists another.
     Mismatch {
         entry: u64,
         got: ChunkId,

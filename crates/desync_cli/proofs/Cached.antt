@@ -38,7 +38,7 @@ module _ (over : Evidence) where
     SpelledSo P indexes = (q : List ℕ) → Contains indexes q → (l : Listing) → IndexSpells w v q l → P q l
 
     module _ (P : List ℕ → Listing → Type 0) (g : Map (List ℕ)) where
-      -- under each id of these indexes stand bytes of that name, by one of them; and under all others what stood there
+      -- under each id of these indexes stand bytes of that digest, by one of them; and under all others what stood there
       listings : (indexes : List (List ℕ)) → SpelledSo P indexes → (f : Map (List ℕ)) → AllFilled over w v indexes (Some f) (Some g)
           → (ls : List Listing) × AllZip P indexes ls × HoldsInOrder ls (chunks g) × ((q : List ℕ) → (chunks g q ≡ chunks f q) ⊎ Any (HoldsListed (chunks g) q) ls)
       listings [] so f h = ([], tt, tt, λ q. inl (ap (λ (m : Map (List ℕ)). chunks m q) (same_Some _ _ h)))

@@ -270,7 +270,7 @@ abbrev pub IsGivenIn : Listing → ℕ → ℕ → List (Map (List ℕ)) → ℕ
 IsGivenIn l at n stores i = IsCovered l at n i → SomeGivesEntry l i stores
 
 -- the range of the image of the stores is printed; or the first entry that it covers and that no store gives is named,
--- and the bytes before it are printed. They are others only where two unequal pieces have one name
+-- and the bytes before it are printed. They are others only where two unequal pieces have one digest
 abbrev pub PrintsRange : Listing → ℕ → ℕ → List (Map (List ℕ)) → Ending
 PrintsRange l at n stores x o y =
     (((o ≡ ends.Done) × ((i : ℕ) → IsGivenIn l at n stores i)) ⊎ NamesLacking l (IsGivenIn l at n stores) stores o)

@@ -12,7 +12,7 @@ use Rattle.server_commands.specs.Serving.{heard}
 use Rattle.dsy_base.specs.Links.{ListenState}
 use Rattle.dsy_base.specs.Maps.{Map}
 
--- OUT holds afterwards what IMAGE held before, or a chunk shows two unequal pieces of bytes that have one name
+-- OUT holds afterwards what IMAGE held before, or a chunk shows two unequal pieces of bytes that have one digest
 pub record ComesBack (before after : Map (List ℕ)) (image out : List ℕ) : Type 0 where
   pub bytes : List ℕ
   pub was : before image ≡ Some bytes

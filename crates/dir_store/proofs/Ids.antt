@@ -12,7 +12,7 @@ use Rattle.std.specs.Set.{is_member}
 use Rattle.std.specs.Str.{IsCharBoundary, IsUtf8, bytes_eq}
 use Rattle.std.specs.declared.cmp.Ordering.{Ordering}
 use Rattle.std.specs.declared.cmp.Ordering.TheVariants.{Less}
-use Rattle.chunk_store.specs.Names.{IsId}
+use Rattle.chunk_store.specs.Digests.{IsId}
 use Rattle.chunk_store.specs.Paths.{path_of}
 use Rattle.hex.specs.Hex.{decode_of, encode_lower, encode_with}
 use Rattle.hex.specs.declared.error.FromHexError.{FromHexError}

@@ -5,7 +5,7 @@ use Rattle.std.specs.Cmp.{both_ways}
 use Rattle.std.specs.Option.{option_map}
 use Rattle.std.specs.Str.{bytes_eq}
 use Rattle.chunk_store.specs.Folders.{chunks, KeepsOthers}
-use Rattle.chunk_store.specs.Names.{IsId}
+use Rattle.chunk_store.specs.Digests.{IsId}
 use Rattle.chunk_store.specs.Paths.{path_of}
 use Rattle.chunk_store.specs.Said.{KeepsOf, said_by}
 use Rattle.chunk_store.proofs.Said.{keeps_itself}

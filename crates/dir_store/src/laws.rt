@@ -3,7 +3,7 @@
 
 ghost use Rattle.std.specs.Prelude.{◌≡◌, ◌↔◌, ℕ, List, IsTrue, false, Option, Some};
 ghost use Rattle.chunk_store.specs.Folders.{chunks};
-ghost use Rattle.chunk_store.specs.Names.{IsId};
+ghost use Rattle.chunk_store.specs.Digests.{IsId};
 ghost use Rattle.chunk_store.specs.Paths.{path_of};
 ghost use Rattle.dir_store.specs.Names.{id_at_path, is_temporary};
 ghost use Rattle.dsy_base.specs.Folders.{temporary_of, put_in};

@@ -1,6 +1,6 @@
 //! A folder as one reads it. Names are relative to it, with `/` between components.
 
-ghost use Rattle.std.specs.Prelude.{◌≡◌, ℕ, Bool, IsTrue, List, ◌≤◌, Option, IfSome, IfOk, is_some, length};
+ghost use Rattle.std.specs.Prelude.{◌≡◌, ◌≢◌, ℕ, Bool, Err, IsTrue, List, ◌≤◌, Option, IfSome, IfOk, is_some, length};
 ghost use Rattle.dsy_base.specs.Counts.{CountsFaults};
 ghost use Rattle.dsy_base.specs.Maps.{Map, IsNamesOf, ReadGives};
 
@@ -30,6 +30,7 @@ pub trait Look: Drop {
         ensures size { IfOk result (λ n. n ≤ length out.new) }
         ensures kept { files self.new ≡ files self.old }
         ensures place { place self.new ≡ place self.old }
+        ensures unfailed { result ≢ Err FileFault.Failed → faults self.new ≡ faults self.old }
         ensures faults { CountsFaults FileFault.Failed FileFault.Memory (faults self.old) (faults self.new) result };
 
     /// Whether there is a file of this name.

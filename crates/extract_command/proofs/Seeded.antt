@@ -6,7 +6,7 @@ use Rattle.std.specs.List.{AllZip, slice_get}
 use Rattle.std.specs.Option.{option_map}
 use Rattle.caibx_codec.specs.Listing.{Listing, end_of, size_of, slice_of, start_of}
 use Rattle.chunk_sources.specs.Sources.{GivesAt, HeldAt, SeedsFailed, SeedsGive}
-use Rattle.chunk_store.specs.Names.{name_of}
+use Rattle.chunk_store.specs.Digests.{digest_of}
 use Rattle.chunk_store.specs.declared.id.DigestKind.{DigestKind}
 use Rattle.chunk_store.specs.declared.id.DigestKind.TheVariants as kinds
 use Rattle.command_steps.specs.Seeds.{name_at}
@@ -119,8 +119,8 @@ module _ (d b : Disk) (m : Map (List ℕ)) (told : d.files ≡ Some m) (x : Seed
         let seed = named_at d b x.images views p.seed h zip is_some in
         let holds = there seed.0 h.bytes seed.2.0 in
         let t = holds.0 in
-        let named : name_of p.kind (bytes_at p t) ≡ id = subst (λ o. IsSomeAnd o (λ u. name_of p.kind (bytes_at p u) ≡ id)) holds.2 gives.1 in
-        let wanted : name_of kind (bytes_at p t) ≡ id = subst (λ (k : DigestKind). name_of k (bytes_at p t) ≡ id) is.kind_is named in
+        let named : digest_of p.kind (bytes_at p t) ≡ id = subst (λ o. IsSomeAnd o (λ u. digest_of p.kind (bytes_at p u) ≡ id)) holds.2 gives.1 in
+        let wanted : digest_of kind (bytes_at p t) ≡ id = subst (λ (k : DigestKind). digest_of k (bytes_at p t) ≡ id) is.kind_is named in
         let long : length t ≡ h.size = subst (λ o. IfSome o (λ u. length u ≡ h.size)) holds.2 seed.2.2 in
         let size : p.size ≡ size_of is.listing is.entry = is.size ∙ sym is.size_is in
         record {
@@ -135,7 +135,7 @@ module _ (d b : Disk) (m : Map (List ℕ)) (told : d.files ≡ Some m) (x : Seed
           id_is = is.id_is;
           size_is = is.size_is;
           fits = omega (arith, gives.0, long, is.start, is.size);
-          right = ap (λ (u : List ℕ). name_of kind u) (sym (slice_by_size is.listing t is.entry p is.start size)) ∙ wanted ∙ sym is.id_is;
+          right = ap (λ (u : List ℕ). digest_of kind u) (sym (slice_by_size is.listing t is.entry p is.start size)) ∙ wanted ∙ sym is.id_is;
         }
 
   -- a seed that has it was opened, or opening it failed
@@ -160,9 +160,9 @@ module _ (d b : Disk) (m : Map (List ℕ)) (told : d.files ≡ Some m) (x : Seed
         let same : Some holds.0 ≡ Some h.bytes = sym holds.1 ∙ h.there in
         let bytes : v.bytes ≡ Some h.bytes = holds.2 ∙ same in
         let long : length h.bytes ≡ v.size = subst (λ o. IfSome o (λ u. length u ≡ v.size)) bytes viewed.2 in
-        let right : name_of kind (bytes_at p h.bytes) ≡ id = ap (λ (u : List ℕ). name_of kind u) (slice_by_size h.listing h.bytes h.entry p refl (sym h.size_is)) ∙ h.right ∙ h.id_is in
+        let right : digest_of kind (bytes_at p h.bytes) ≡ id = ap (λ (u : List ℕ). digest_of kind u) (slice_by_size h.listing h.bytes h.entry p refl (sym h.size_is)) ∙ h.right ∙ h.id_is in
         let inside : p.start + p.size ≤ v.size = omega (arith, h.fits, long) in
-        let gives : GivesAt (Some v) p id = (inside, subst (λ o. IsSomeAnd o (λ u. name_of p.kind (bytes_at p u) ≡ id)) (sym bytes) right) in
+        let gives : GivesAt (Some v) p id = (inside, subst (λ o. IsSomeAnd o (λ u. digest_of p.kind (bytes_at p u) ≡ id)) (sym bytes) right) in
         let held : HeldAt views p id = subst (λ o. GivesAt o p id) (sym is) gives in
         inr (k, listed.1, ap (λ (r : SeedPlace). r.seed) at, subst (λ (r : SeedPlace). HeldAt views r id) (sym at) held, v, is, viewed.1)
 

@@ -20,7 +20,7 @@ use Rattle.chunk_sources.specs.Losses.{chunk_of}
 use Rattle.chunk_sources.specs.Wants.{IsAmong}
 use Rattle.chunk_store.specs.Folders.{chunks}
 use Rattle.chunk_store.specs.Giving.{GivesChunk, IsChunk}
-use Rattle.chunk_store.specs.Names.{name_of}
+use Rattle.chunk_store.specs.Digests.{digest_of}
 use Rattle.chunk_store.specs.declared.id.ChunkId.{ChunkId}
 use Rattle.chunk_store.specs.declared.id.DigestKind.{DigestKind}
 use Rattle.command_outcome.specs.declared.outcome.Outcome.{Outcome}
@@ -90,7 +90,7 @@ pub record SeedHas (kind : DigestKind) (files : Map (List ℕ)) (x : Seeds) (id 
   pub id_is : id_of listing entry ≡ id
   pub size_is : size_of listing entry ≡ size
   pub fits : start_of listing entry + size ≤ length bytes
-  pub right : name_of kind (slice_of listing bytes entry) ≡ id_of listing entry
+  pub right : digest_of kind (slice_of listing bytes entry) ≡ id_of listing entry
 
 -- entry i can be had: an alike one is right in the base, or a seed has its chunk in one of these files, or the cache or
 -- a store gives it, which hold these maps

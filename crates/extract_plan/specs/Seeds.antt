@@ -3,7 +3,7 @@ use Rattle.std.specs.Prelude.{◌≡◌, ◌≢◌, ℕ, ◌+◌, ◌<◌, ◌�
 use Rattle.std.specs.Option.{option_map}
 use Rattle.dsy_base.specs.Bytes.{Held}
 use Rattle.dsy_base.specs.Counts.{Rose}
-use Rattle.chunk_store.specs.Names.{name_of}
+use Rattle.chunk_store.specs.Digests.{digest_of}
 use Rattle.extract_plan.specs.declared.seed.Seed.{Seed}
 use Rattle.extract_plan.specs.declared.seed.SeedPlace.{SeedPlace}
 use Rattle.extract_plan.specs.declared.seed.SeedAnswer.{SeedAnswer}
@@ -28,13 +28,14 @@ bytes_at p bytes = slice_range bytes p.start (place_end p)
 -- a seed gave these bytes from the place in what its view holds
 pub record SeedGives (held : Held) (place : SeedPlace) (id out : List ℕ) : Type 0 where
   pub inside : place_end place ≤ held.size
-  pub named : name_of place.kind out ≡ id
+  pub named : digest_of place.kind out ≡ id
   pub bytes : IfSome held.bytes (λ t. out ≡ bytes_at place t)
 
--- the place isn't inside what its view holds, or these bytes stand there and have another name
+-- the place isn't inside what its view holds, or these bytes stand there and have another digest
 abbrev pub GivesNot : Held → SeedPlace → List ℕ → List ℕ → Type 0
 GivesNot held place id out = (held.size < place_end place)
-    ⊎ ((place_end place ≤ held.size) × (name_of place.kind out ≢ id) × IfSome held.bytes (λ t. out ≡ bytes_at place t))
+    ⊎ ((place_end place ≤ held.size) × (digest_of place.kind out ≢ id)
+    × IfSome held.bytes (λ t. out ≡ bytes_at place t))
 
 -- the answer of a seed with such a view, or with none
 abbrev pub SeedAnswersSo : Option Held → SeedPlace → List ℕ → List ℕ → SeedAnswer → Type 0

@@ -6,7 +6,7 @@ use Rattle.std.proofs.lemmas.List.{append_assoc, append_cancel_left, get_or_past
 use Rattle.std.proofs.lemmas.List.Sums.{sum_by_push}
 use Rattle.std.proofs.lemmas.Slice.Eq.{bytes_eq-Decides}
 use Rattle.chunk_store.proofs.Paths.{path_one}
-use Rattle.chunk_store.specs.Names.{IsId}
+use Rattle.chunk_store.specs.Digests.{IsId}
 use Rattle.chunk_store.specs.Paths.{path_of}
 use Rattle.chunk_store.specs.Said.{AskedOnce}
 use Rattle.dsy_base.specs.Links.{Traffic}

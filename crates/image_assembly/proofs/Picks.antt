@@ -24,7 +24,7 @@ use Rattle.chunk_sources.specs.Wants.{IsAmong, Task}
 use Rattle.chunk_sources.specs.declared.kit.Kit.{Kit}
 use Rattle.chunk_store.specs.Folders.{chunks}
 use Rattle.chunk_store.specs.Giving.{GivesChunk}
-use Rattle.chunk_store.specs.Names.{name_of}
+use Rattle.chunk_store.specs.Digests.{digest_of}
 use Rattle.chunk_store.specs.declared.id.DigestKind.{DigestKind}
 use Rattle.chunk_store.specs.declared.store.Store.{Ghosts as StoreWords}
 use Rattle.dsy_base.specs.Bytes.{Held, resized}
@@ -112,7 +112,7 @@ resized_again y n = resized_same (resized y n) n (length_resized y n)
 
 module _ (t : Task) (base : List ℕ) (wants : AreWants t.listing t.plan.wants t.plan.want_of) where
   right_decides : (e : ℕ) → Decides (is_right_at t.listing base e) (IsRightAt base t.listing e)
-  right_decides e = bytes_eq-Decides (name_of (kind_of t.listing) (slice_of t.listing base e)) (id_of t.listing e)
+  right_decides e = bytes_eq-Decides (digest_of (kind_of t.listing) (slice_of t.listing base e)) (id_of t.listing e)
 
   abbrev SomeRight : ℕ → Type 0
   SomeRight w = (i : ℕ) × IsAmong (of_want t.plan w) i × (is_right_at t.listing base i ≡ true)

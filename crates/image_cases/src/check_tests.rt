@@ -37,7 +37,7 @@ fn is_checked<R: Abort + Threads + Sync>(
     same(rt, checked, want);
 }
 
-// The chunk that is another one has this name.
+// The chunk that is another one has this digest.
 fn mismatch(rt: &impl Abort, entry: u64, got: &str) -> Result<(), CheckFault> {
     let got = id_of(rt, got);
     Err(CheckFault::Mismatch { entry, got })

@@ -1,4 +1,4 @@
-//! Indexes of small images, and the names of their chunks. Sizes are in bytes.
+//! Indexes of small images, and the digests of their chunks. Sizes are in bytes.
 
 ghost use Rattle.std.specs.Prelude.{◌≡◌};
 ghost use Rattle.caibx_codec.specs.Listing.{kind_of};
@@ -22,7 +22,7 @@ pub const DEF: &str = "f391834ba55302124fbcfc8df6831a666e468b310e99295e1fce0abf8
 /// SHA-512/256 of `deX`.
 pub const DEX: &str = "99fd98af64dbf7b52833a40d79bb5d8719070460665c2be3a01a01a88c57b2ef";
 
-/// The id that has this name, in digits.
+/// The id that has these digits.
 pub fn id_of(rt: &impl Abort, text: &str) -> ChunkId {
     ok(rt, ChunkId::from_hex(text))
 }

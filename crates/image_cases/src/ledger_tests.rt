@@ -15,7 +15,7 @@ use range_ledger::run::RunName;
 use range_ledger::shard::Shard;
 use range_ledger::unread::{Surveyed, Unread, open_fates, shard_size};
 use range_survey::fate::Fate;
-use range_survey::zeros::ZeroNames;
+use range_survey::zeros::ZeroDigests;
 use std::alloc::Global;
 use std::marker::Brand;
 use std::process::Abort;
@@ -71,7 +71,7 @@ fn surveys<R: RunName>(
     index.rules();
     let old = index.length();
     let mut room = ok(rt, index.room(alloc));
-    let zeros = ok(rt, ZeroNames::of(alloc, index, old, &mut room));
+    let zeros = ok(rt, ZeroDigests::of(alloc, index, old, &mut room));
     let Ok(mut buf) = index.room(alloc) else {
         panic!(rt; "no memory");
     };

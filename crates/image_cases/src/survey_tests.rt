@@ -15,7 +15,7 @@ use owned_shards::survey::survey_shards;
 use range_ledger::ledger::Ledger;
 use range_ledger::run::RunName;
 use range_survey::fate::Fate;
-use range_survey::zeros::ZeroNames;
+use range_survey::zeros::ZeroDigests;
 use std::alloc::Global;
 use std::marker::Brand;
 use std::process::Abort;
@@ -101,16 +101,16 @@ fn ranges_past_the_old_length_are_not_read(rt: HostRuntime) {
     );
 }
 
-// The table for a target of the old length has this name, in digits, for this many zeros.
+// The table for a target of the old length has this digest for this many zeros.
 fn names(rt: &impl Abort, alloc: Global, old: u64, size: usize, digits: Option<&str>) {
     let index = index(rt, alloc);
     let mut buf = ok(rt, index.room(alloc));
-    let zeros = ok(rt, ZeroNames::of(alloc, &index, old, &mut buf));
+    let zeros = ok(rt, ZeroDigests::of(alloc, &index, old, &mut buf));
     let name = match digits {
         Some(digits) => Some(id_of(rt, digits)),
         None => None,
     };
-    same(rt, zeros.name(index.kind(), size), name);
+    same(rt, zeros.digest(index.kind(), size), name);
 }
 
 // The digests are those that OpenSSL tells of zeros.

@@ -17,7 +17,7 @@ use std::thread::Threads;
 /// SHA-256 of `abc`, from FIPS 180-4's examples.
 const ABC_BY_SHA256: &str = "ba7816bf8f01cfea414140de5dae2223b00361a396177a9cb410ff61f20015ad";
 
-// The index lists these ends, each with the name of its chunk.
+// The index lists these ends, each with the digest of its chunk.
 fn lists(rt: &impl Abort, kind: DigestKind, index: &Index, image: &[u8], ends: &[u64]) {
     same(rt, index.count(), ends.len());
     let mut start = 0;

@@ -2,7 +2,7 @@
 use Rattle.std.proofs.Common.{◌≡◌, ℕ, ◌+◌, ◌<◌, ◌≤◌, List, length, Option, Some, None, IfSome, OnErr, OnOk, Result, Ok, Err, refl, sym, subst, ◌∙◌, arith, below_more}
 use Rattle.caibx_codec.specs.Listing.{Listing, count_of, id_of, image_length, kind_of, size_of, slice_of}
 use Rattle.caibx_codec.specs.Right.{IsRightAt}
-use Rattle.chunk_store.specs.Names.{name_of}
+use Rattle.chunk_store.specs.Digests.{digest_of}
 use Rattle.dsy_base.specs.Bytes.{Held}
 use Rattle.dsy_base.specs.Counts.{CountsFaults}
 use Rattle.dsy_base.specs.declared.view.View.{Ghosts as ViewWords}
@@ -20,7 +20,7 @@ right_below l (Some t) i here before = below_more _ _ before here
 -- a slice that was read ahead is right
 pub slice_right : (l : Listing) (told : Option (List ℕ)) (i : ℕ) (b : List ℕ) → IsSlice l told i b → IfSome told (λ t. IsRightAt t l i)
 slice_right l None i b slice = tt
-slice_right l (Some t) i b slice = subst (λ (x : List ℕ). name_of (kind_of l) x ≡ id_of l i) slice.is slice.named
+slice_right l (Some t) i b slice = subst (λ (x : List ℕ). digest_of (kind_of l) x ≡ id_of l i) slice.is slice.named
 
 -- chunk i is wrong, or couldn't be read, and those before it are right
 pub check_stops : (l : Listing) (told : Option (List ℕ)) (i size : ℕ) (fault : CheckFault) → i < count_of l → size ≡ image_length l → IsWrongAt l i told fault → IfSome told (λ t. AreRightBelow t l i)
@@ -28,7 +28,7 @@ pub check_stops : (l : Listing) (told : Option (List ℕ)) (i size : ℕ) (fault
 check_stops l told i size (check.Length n) inside is wrong before = absurd wrong
 check_stops l told i size (check.Mismatch k got) inside is wrong before =
     subst (λ (j : ℕ). CheckEnds l told size (Err (check.Mismatch j got))) (sym wrong.0) (record { size_is = is; exactly = first told wrong.2 before; names = (inside, wrong.1) }) where
-      first : (o : Option (List ℕ)) → IfSome o (λ t. got.0 ≡ name_of (kind_of l) (slice_of l t i)) → IfSome o (λ t. AreRightBelow t l i) → IfSome o (λ t. IsFirstWrong t l i got.0)
+      first : (o : Option (List ℕ)) → IfSome o (λ t. got.0 ≡ digest_of (kind_of l) (slice_of l t i)) → IfSome o (λ t. AreRightBelow t l i) → IfSome o (λ t. IsFirstWrong t l i got.0)
       first None named before = tt
       first (Some t) named before = record { listed = inside; before = before; named = named; wrong = wrong.1 }
 check_stops l told i size check.ImageFault inside is wrong before = record { size_is = is; exactly = free told; names = tt } where

@@ -2,7 +2,7 @@
 -- where they are told.
 use Rattle.std.specs.Prelude.{◌≡◌, ◌≢◌, ℕ, ◌<◌, ◌≤◌, IfErr, IfSome, List, OnErr, OnOk, Option, Result, length}
 use Rattle.caibx_codec.specs.Listing.{Listing, count_of, id_of, image_length, kind_of, size_of, slice_of}
-use Rattle.chunk_store.specs.Names.{name_of}
+use Rattle.chunk_store.specs.Digests.{digest_of}
 use Rattle.dsy_base.specs.Counts.{CountsFaults}
 use Rattle.dsy_base.specs.declared.view.View.{Ghosts as ViewWords}
 use Rattle.image_check.specs.Checks.{AreRightBelow, NamesEntry, TellsChunks, TellsSize}
@@ -13,7 +13,7 @@ use Rattle.image_check.specs.declared.checking.Checking.{Checking}
 -- why checking chunk i ended early
 abbrev pub IsWrongAt : Listing → ℕ → Option (List ℕ) → CheckFault → Type 0
 IsWrongAt l i told (check.Mismatch k got) =
-    (k ≡ i) × (got.0 ≢ id_of l i) × IfSome told (λ t. got.0 ≡ name_of (kind_of l) (slice_of l t i))
+    (k ≡ i) × (got.0 ≢ id_of l i) × IfSome told (λ t. got.0 ≡ digest_of (kind_of l) (slice_of l t i))
 IsWrongAt l i told (check.Length n) = ⊥
 IsWrongAt l i told check.ImageFault = Unit {0}
 IsWrongAt l i told check.Memory = Unit {0}

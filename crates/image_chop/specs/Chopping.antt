@@ -5,7 +5,7 @@ use Rattle.std.specs.List.{count_by}
 use Rattle.std.specs.Str.{bytes_eq}
 use Rattle.caibx_codec.specs.Listing.{Listing, count_of, id_of, image_length, kind_of, slice_of}
 use Rattle.caibx_codec.specs.Right.{IsRightAt}
-use Rattle.chunk_store.specs.Names.{name_of}
+use Rattle.chunk_store.specs.Digests.{digest_of}
 use Rattle.chunk_store.specs.Said.{Said}
 use Rattle.chunk_store.specs.declared.store.Store.{Ghosts as StoreWords}
 use Rattle.image_store.specs.PutChunks.{HoldsAll, PutsFiles, SaysNamed, Stands, ToldMap}
@@ -38,14 +38,14 @@ TellsLength l size (Err faults.ImageFault) = size ≡ image_length l
 TellsLength l size (Err faults.StoreFault) = size ≡ image_length l
 TellsLength l size (Err faults.Memory) = size ≡ image_length l
 
--- each slice of the entries before k has its listed name
+-- each slice of the entries before k has its listed digest
 abbrev pub AreRightTo : Listing → ℕ → Option (List ℕ) → Type 0
 AreRightTo l k told = IfSome told (λ t. (i : ℕ) → i < k → IsRightAt t l i)
 
--- a mismatch is of the first entry whose slice has another name than is listed, and tells its name
+-- a mismatch is of the first entry whose slice has another digest than is listed, and tells it
 abbrev pub IsMismatch : Listing → Option (List ℕ) → ChopFault → Type 0
 IsMismatch l told (faults.Mismatch k got) = (k < count_of l) × (got.0 ≢ id_of l k)
-    × IfSome told (λ t. got.0 ≡ name_of (kind_of l) (slice_of l t k)) × AreRightTo l k told
+    × IfSome told (λ t. got.0 ≡ digest_of (kind_of l) (slice_of l t k)) × AreRightTo l k told
 IsMismatch l told (faults.Length n) = Unit {0}
 IsMismatch l told faults.ImageFault = Unit {0}
 IsMismatch l told faults.StoreFault = Unit {0}
@@ -63,7 +63,7 @@ pub record AsksListed (l : Listing) (k : ℕ) (old new : List ℕ → ℕ) : Typ
 -- storing entry k ended early
 abbrev pub StopsAt : Listing → ℕ → Option (List ℕ) → ChopFault → Type 0
 StopsAt l k told (faults.Mismatch entry got) =
-    (entry ≡ k) × (got.0 ≢ id_of l k) × IfSome told (λ t. got.0 ≡ name_of (kind_of l) (slice_of l t k))
+    (entry ≡ k) × (got.0 ≢ id_of l k) × IfSome told (λ t. got.0 ≡ digest_of (kind_of l) (slice_of l t k))
 StopsAt l k told (faults.Length n) = ⊥
 StopsAt l k told faults.ImageFault = Unit {0}
 StopsAt l k told faults.StoreFault = Unit {0}
@@ -79,7 +79,7 @@ pub record StopsInOrder (l : Listing) (told : Option (List ℕ)) (held now old n
   pub changed : IfSome told (λ t. IfSome held (λ a. IfSome now (λ b. Stands l t (entry + 1) a b)))
   pub files : PutsFiles l told held (entry + 1) old new
 
--- of each entry before k, but of one with the id of entry k, the store has shown or taken bytes of that name
+-- of each entry before k, but of one with the id of entry k, the store has shown or taken bytes of that digest
 abbrev pub SaysBefore : Listing → ℕ → Said → Type 0
 SaysBefore l k said = (i : ℕ) → i < k → id_of l i ≢ id_of l k → SaysNamed (kind_of l) (id_of l i) said
 

@@ -30,7 +30,7 @@ use std::thread::Threads;
 pub enum ChopFault {
     /// The image has this many bytes, and the index lists another number.
     Length { size: u64 },
-    /// The slice of this entry has the name `got`, and the index lists another.
+    /// The slice of this entry has the digest `got`, and the index lists another.
     Mismatch { entry: u64, got: ChunkId },
     /// The image couldn't be read.
     ImageFault,

@@ -40,7 +40,7 @@ HasLength l told = IfSome told (λ t. length t ≡ image_length l)
 
 module _ (l : Listing) (image : List ℕ) (told : Option (List ℕ)) (store : Location) (held : Option (Map (List ℕ))) where
   -- the store was given back after chopping that ended so. Of each entry that was chopped, a server has taken or shown
-  -- bytes of the listed name
+  -- bytes of the listed digest
   abbrev pub ChopGiven : Result Unit ChopFault → Storage → Storage → Type 0
   ChopGiven r w v = StoreGiven store held (ChoppedTo l told r) (SaysAll l (seen_to l r)) w v
 
@@ -63,7 +63,7 @@ module _ (l : Listing) (image : List ℕ) (told : Option (List ℕ)) (store : Lo
       w.dial.ended v.dial.ended
 
   -- chopping into a server ended at this entry: those before it are right, and of their chunks the server has taken or
-  -- shown bytes of the listed names; it was asked for these and for that of the entry alone
+  -- shown bytes of the listed digests; it was asked for these and for that of the entry alone
   pub record StopsAtServer (w v : Storage) : Type 0 where
     pub entry : ℕ
     pub right : AreRightTo l entry told

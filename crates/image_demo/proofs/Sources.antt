@@ -13,7 +13,7 @@ use Rattle.cache_store.specs.Giving.{SomeGives}
 use Rattle.caibx_codec.specs.Listing.{Listing, Rules, count_of, end_of, id_of, image_length, kind_of, size_of, start_of}
 use Rattle.caibx_codec.specs.Right.{IsRight, IsRightAt}
 use Rattle.chunk_sources.specs.Economy.{given_at, seeds_give, source_of, stores_give}
-use Rattle.chunk_store.specs.Names.{name_of}
+use Rattle.chunk_store.specs.Digests.{digest_of}
 use Rattle.chunk_store.specs.declared.id.DigestKind.{DigestKind}
 use Rattle.dsy_base.specs.Bytes.{Held, resized}
 use Rattle.dsy_base.specs.Maps.{Map}
@@ -90,8 +90,8 @@ module _ (l m : Listing) (d : Deal) (x : Placed) (wants : AreWants l d.wants d.w
         let within : end_of m j ≤ image_length m = rules.inside j inside in
         let end : start_of m j + size_of l i ≡ end_of m j = omega (arith, sized, rises) in
         let fits : nat_le (start_of m j + size_of l i) held.size ≡ true = le-leb _ _ (omega (arith, end, within, size)) in
-        let name : bytes_eq (name_of (kind_of l) (slice_range t (start_of m j) (start_of m j + size_of l i))) (id_of l i) ≡ true =
-        (bytes_eq-Decides _ _).1 (ap (λ e. name_of (kind_of l) (slice_range t (start_of m j) e)) end ∙ ap (λ k. name_of k (slice_range t (start_of m j) (end_of m j))) (sym same_kind) ∙ right.entries j inside ∙ named) in
+        let name : bytes_eq (digest_of (kind_of l) (slice_range t (start_of m j) (start_of m j + size_of l i))) (id_of l i) ≡ true =
+        (bytes_eq-Decides _ _).1 (ap (λ e. digest_of (kind_of l) (slice_range t (start_of m j) e)) end ∙ ap (λ k. digest_of k (slice_range t (start_of m j) (end_of m j))) (sym same_kind) ∙ right.entries j inside ∙ named) in
         rw told (rw fits name)
 
     -- the seed gives what its index lists
@@ -121,7 +121,7 @@ module _ (l m : Listing) (d : Deal) (x : Placed) (wants : AreWants l d.wants d.w
       stored : (kind : DigestKind) (id : List ℕ) (size : ℕ) → SomeGives kind id size (map ∷ []) → stores_give kind id size (map ∷ []) ≡ true
       stored kind id size (zero, n, inside, is, (b, holds, chunk)) =
           let here : map id ≡ Some b = subst (λ f. f id ≡ Some b) (sym is) holds in
-          let named : bytes_eq (name_of kind b) id ≡ true = (bytes_eq-Decides _ _).1 chunk.named in
+          let named : bytes_eq (digest_of kind b) id ≡ true = (bytes_eq-Decides _ _).1 chunk.named in
           let sized : (length b == size) ≡ true = (Decides-eqb _ _).1 chunk.sized in
           rw here (rw named (rw sized refl))
       stored kind id size (suc k, n, inside, is, rest) = absurd (omega (arith, inside))

@@ -7,7 +7,7 @@ use Rattle.std.specs.Str.{bytes_eq}
 use Rattle.range_survey.specs.Reports.{right_below}
 use Rattle.buzhash_cut.specs.Image.{IsIndexOfImage}
 use Rattle.caibx_codec.specs.Listing.{Listing, count_of, id_of, image_length, size_of}
-use Rattle.chunk_store.specs.Names.{name_of}
+use Rattle.chunk_store.specs.Digests.{digest_of}
 use Rattle.chunk_store.specs.declared.id.DigestKind.{DigestKind}
 use Rattle.image_demo.specs.Images.{image_of, seed_of, usual_sizes}
 use Rattle.image_demo.specs.declared.fault.DemoFault.{DemoFault}
@@ -92,14 +92,14 @@ text_of_figures f = figure_line (codes "bytes ") f.bytes ++ figure_line (codes "
 
 -- ---- why there are none
 
--- two unequal pieces of at most `most` bytes have this name
+-- two unequal pieces of at most `most` bytes have this digest
 pub record HasTwoPieces (kind : DigestKind) (most : ℕ) (name : List ℕ) : Type 0 where
   pub one : List ℕ
   pub other : List ℕ
   pub differ : one ≢ other
   pub small : (length one ≤ most) × (length other ≤ most)
-  pub one_named : name_of kind one ≡ name
-  pub other_named : name_of kind other ≡ name
+  pub one_named : digest_of kind one ≡ name
+  pub other_named : digest_of kind other ≡ name
 
 -- a refusal names two unequal pieces of bytes, none larger than a chunk. Want of memory is free
 abbrev pub IsDemoRefused : DigestKind → ℕ → DemoFault → Type 0

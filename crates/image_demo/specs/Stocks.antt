@@ -8,7 +8,7 @@ use Rattle.image_demo.specs.declared.fault.DemoFault.{DemoFault}
 use Rattle.image_demo.specs.declared.fault.DemoFault.TheVariants as demo
 use Rattle.image_store.specs.PutChunks.{HoldsAll, IsStored}
 
--- under each listed id bytes of that name, and under each id nothing or a slice of the image t
+-- under each listed id bytes of that digest, and under each id nothing or a slice of the image t
 pub record IsStocked (l : Listing) (t : List ℕ) (held : Option (Map (List ℕ))) : Type 0 where
   pub map : Map (List ℕ)
   pub told : held ≡ Some map

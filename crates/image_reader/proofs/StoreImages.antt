@@ -10,7 +10,7 @@ use Rattle.std.specs.List.{flat_map, range_with_len, repeat}
 use Rattle.std.specs.Str.{bytes_eq}
 use Rattle.caibx_codec.specs.Listing.{Listing, Rules, count_of, start_of, end_of, id_of, kind_of, size_of, slice_of}
 use Rattle.chunk_store.specs.Giving.{GivesChunk, IsChunk}
-use Rattle.chunk_store.specs.Names.{name_of}
+use Rattle.chunk_store.specs.Digests.{digest_of}
 use Rattle.chunk_store.specs.declared.id.DigestKind.{DigestKind}
 use Rattle.dsy_base.specs.Maps.{Map}
 use Rattle.image_reader.proofs.Covering.{range_more}
@@ -26,7 +26,7 @@ module _ (kind : DigestKind) (id : List ℕ) (size : ℕ) where
   held_size : (rest : List ℕ) → length rest ≡ size → (o : Option (List ℕ)) → length (held_or_zeros kind id size rest o) ≡ size
   held_size rest h None = h
   held_size rest h (Some b) = (elim (is_chunk_of kind id size b) as (λ t. is_chunk_of kind id size b ≡ t → length (cond t b rest) ≡ size) [
-    | true ↦ λ t. eqb-true (length b) size (and_parts (bytes_eq (name_of kind b) id) (eqb (length b) size) t).1
+    | true ↦ λ t. eqb-true (length b) size (and_parts (bytes_eq (digest_of kind b) id) (eqb (length b) size) t).1
     | false ↦ λ t. h
   ]) refl
 
@@ -36,13 +36,13 @@ module _ (kind : DigestKind) (id : List ℕ) (size : ℕ) where
 
   -- what some map gives has the digest
   is_the_chunk : (b : List ℕ) → IsChunk kind id size b → is_chunk_of kind id size b ≡ true
-  is_the_chunk b c = and_from (bytes_eq (name_of kind b) id) (eqb (length b) size) ((bytes_eq-Decides (name_of kind b) id).1 c.named) (eq-eqb (length b) size c.sized)
+  is_the_chunk b c = and_from (bytes_eq (digest_of kind b) id) (eqb (length b) size) ((bytes_eq-Decides (digest_of kind b) id).1 c.named) (eq-eqb (length b) size c.sized)
 
   -- the first map gives it, or what the others give has the digest
-  held_named : (rest : List ℕ) (o : Option (List ℕ)) → ((GivesChunk kind id size o → ⊥) → name_of kind rest ≡ id) → name_of kind (held_or_zeros kind id size rest o) ≡ id
+  held_named : (rest : List ℕ) (o : Option (List ℕ)) → ((GivesChunk kind id size o → ⊥) → digest_of kind rest ≡ id) → digest_of kind (held_or_zeros kind id size rest o) ≡ id
   held_named rest None else_ = else_ (λ g. (let none : None ≡ Some g.0 = g.1 in absurd (cc)))
-  held_named rest (Some b) else_ = (elim (is_chunk_of kind id size b) as (λ t. is_chunk_of kind id size b ≡ t → name_of kind (cond t b rest) ≡ id) [
-    | true ↦ λ t. (bytes_eq-Decides (name_of kind b) id).0 (and_parts (bytes_eq (name_of kind b) id) (eqb (length b) size) t).0
+  held_named rest (Some b) else_ = (elim (is_chunk_of kind id size b) as (λ t. is_chunk_of kind id size b ≡ t → digest_of kind (cond t b rest) ≡ id) [
+    | true ↦ λ t. (bytes_eq-Decides (digest_of kind b) id).0 (and_parts (bytes_eq (digest_of kind b) id) (eqb (length b) size) t).0
     | false ↦ λ t. else_ (λ g.
         let same : b ≡ g.0 = some_is b g.0 g.1 in
         let P : List ℕ → Type 0 = λ x. IsChunk kind id size x in
@@ -53,7 +53,7 @@ module _ (kind : DigestKind) (id : List ℕ) (size : ℕ) where
       some_is : (x y : List ℕ) → Some x ≡ Some y → x ≡ y
       some_is x y e = cc
 
-  given_named : (maps : List (Map (List ℕ))) (k : ℕ) (m : Map (List ℕ)) → k < length maps → slice_index_or maps k m ≡ m → GivesChunk kind id size (m id) → name_of kind (given_or_zeros kind id size maps) ≡ id
+  given_named : (maps : List (Map (List ℕ))) (k : ℕ) (m : Map (List ℕ)) → k < length maps → slice_index_or maps k m ≡ m → GivesChunk kind id size (m id) → digest_of kind (given_or_zeros kind id size maps) ≡ id
   given_named [] k m lt is gives = absurd (omega arith)
   given_named (x ∷ xs) zero m lt is gives = held_named (given_or_zeros kind id size xs) (x id) (λ not.
       let P : Map (List ℕ) → Type 0 = λ y. GivesChunk kind id size (y id) in
@@ -133,5 +133,5 @@ module _ (l : Listing) (maps : List (Map (List ℕ))) where
       size = entries_length (count_of l) (omega arith);
       entries = λ i covered.
           let some = given i covered in
-          ap (name_of (kind_of l)) (slice_is i covered.listed) ∙ given_named (kind_of l) (id_of l i) (size_of l i) maps some.0 some.1 some.2 some.3 some.4;
+          ap (digest_of (kind_of l)) (slice_is i covered.listed) ∙ given_named (kind_of l) (id_of l i) (size_of l i) maps some.0 some.1 some.2 some.3 some.4;
     }

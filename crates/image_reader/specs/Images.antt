@@ -7,7 +7,7 @@ use Rattle.std.specs.Str.{bytes_eq}
 use Rattle.caibx_codec.specs.Listing.{Listing, count_of, id_of, image_length, kind_of, size_of}
 use Rattle.caibx_codec.specs.Right.{IsRightAt}
 use Rattle.chunk_store.specs.Giving.{GivesChunk, IsChunk}
-use Rattle.chunk_store.specs.Names.{name_of}
+use Rattle.chunk_store.specs.Digests.{digest_of}
 use Rattle.chunk_store.specs.declared.id.DigestKind.{DigestKind}
 use Rattle.dsy_base.specs.Maps.{Map}
 use Rattle.image_reader.specs.Covered.{IsCovered}
@@ -29,13 +29,13 @@ pub record HasTwinsIn (l : Listing) (at n : ℕ) : Type 0 where
   pub first : IsChunk (kind_of l) (id_of l entry) (size_of l entry) one
   pub second : IsChunk (kind_of l) (id_of l entry) (size_of l entry) other
 
--- the bytes are those of t in the range, but where two unequal pieces have one name
+-- the bytes are those of t in the range, but where two unequal pieces have one digest
 abbrev pub IsRange : Listing → ℕ → ℕ → List ℕ → List ℕ → Type 0
 IsRange l at n t out = (out ≡ slice_range t at (at + n)) ⊎ HasTwinsIn l at n
 
 -- whether the bytes are the chunk of this id and size
 abbrev pub is_chunk_of : DigestKind → List ℕ → ℕ → List ℕ → Bool
-is_chunk_of kind id size b = bytes_eq (name_of kind b) id && (length b == size)
+is_chunk_of kind id size b = bytes_eq (digest_of kind b) id && (length b == size)
 
 -- the bytes that a map holds, where they are the chunk, and otherwise the rest
 abbrev pub held_or_zeros : DigestKind → List ℕ → ℕ → List ℕ → Option (List ℕ) → List ℕ

@@ -6,7 +6,7 @@ use Rattle.std.proofs.Math.Seq.{get_or-append_seam}
 use Rattle.std.proofs.lemmas.List.Elements.{All-push}
 use Rattle.std.proofs.lemmas.Option.{IfSome_then}
 use Rattle.caibx_codec.specs.Listing.{Listing, end_of, id_of, kind_of, size_of, start_of}
-use Rattle.chunk_store.specs.Names.{name_of}
+use Rattle.chunk_store.specs.Digests.{digest_of}
 use Rattle.image_slices.specs.Ahead.{AddsSlice, EntriesFall, FitsItsRoom, HasSlice, IsAhead, IsListedSlice, IsPlacedPiece, IsSlice, piece_slice}
 use Rattle.image_slices.specs.declared.ahead.Ahead.{Ahead}
 use Rattle.image_slices.specs.declared.ahead.Piece.{Piece}
@@ -29,7 +29,7 @@ range_length xs a b le = omega (arith, length-take (b - a) (drop a xs), length-d
 
 -- the bytes that were read to place `at` are the slice of entry i
 pub slice_read : (l : Listing) (told : Option (List ℕ)) (i : ℕ) (room : List ℕ) (at start size : ℕ) → start ≡ start_of l i → size ≡ size_of l i → start + size ≡ end_of l i → at + size ≤ length room
-    → name_of (kind_of l) (slice_range room at (at + size)) ≡ id_of l i
+    → digest_of (kind_of l) (slice_range room at (at + size)) ≡ id_of l i
     → IfSome told (λ t. slice_range room at (at + size) ≡ slice_range t start (start + size))
     → IsSlice l told i (slice_range room at (at + size_of l i))
 slice_read l told i room at start size start_is size_is end fits named bytes =

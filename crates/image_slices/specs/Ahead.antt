@@ -3,14 +3,14 @@
 use Rattle.std.specs.Prelude.{◌≡◌, ℕ, ◌+◌, ◌/◌, ◌<◌, ◌≤◌, ◌⊎◌, All, List, length, slice_index_or, slice_range}
 use Rattle.std.specs.Prelude.{vec_capacity, vec_len, Option, IfSome}
 use Rattle.caibx_codec.specs.Listing.{Listing, count_of, id_of, kind_of, size_of, slice_of}
-use Rattle.chunk_store.specs.Names.{name_of}
+use Rattle.chunk_store.specs.Digests.{digest_of}
 use Rattle.image_slices.specs.declared.ahead.Ahead.{Ahead}
 use Rattle.image_slices.specs.declared.ahead.Piece.{Piece}
 
 -- the bytes b have the size and the digest that are listed for entry i, and this is said of them
 pub record IsListedSlice (l : Listing) (Says : ℕ → List ℕ → Type 0) (i : ℕ) (b : List ℕ) : Type 0 where
   pub size : length b ≡ size_of l i
-  pub named : name_of (kind_of l) b ≡ id_of l i
+  pub named : digest_of (kind_of l) b ≡ id_of l i
   pub is : Says i b
 
 -- a view says of entry i and the bytes b that they are its slice of the image

@@ -4,7 +4,7 @@ ghost use Rattle.std.specs.Prelude.{◌≡◌, ℕ, ◌+◌, ◌<◌, ◌≤◌,
 ghost use Rattle.std.specs.Prelude.{IfOk, IfSome, length, None, nat_lt, slice_index_or, slice_range, take};
 ghost use Rattle.std.specs.Prelude.{vec_capacity, vec_len};
 ghost use Rattle.caibx_codec.specs.Listing.{Listing, count_of, image_length, size_of};
-ghost use Rattle.chunk_store.specs.Names.{name_of};
+ghost use Rattle.chunk_store.specs.Digests.{digest_of};
 ghost use Rattle.image_slices.specs.Ahead.{AddsSlice, EntriesFall, FitsItsRoom, HasBytes, HasSlice, HasSpace, IsAhead};
 ghost use Rattle.image_slices.specs.Ahead.{IsSlice, TellsSlice};
 
@@ -42,7 +42,7 @@ fn read_named<V: View>(
     requires inside { listed.now.start + listed.now.size ≤ (V.held view.old).size }
     requires room { at + listed.now.size ≤ length room.old }
     ensures before { take at room.new ≡ take at room.old }
-    ensures named { IsTrue result → name_of kind (slice_range room.new at (at + listed.now.size)) ≡ listed.now.id.0 }
+    ensures named { IsTrue result → digest_of kind (slice_range room.new at (at + listed.now.size)) ≡ listed.now.id.0 }
     ensures bytes { IsTrue result → IfSome (V.held view.old).bytes (λ t.
         slice_range room.new at (at + listed.now.size)
         ≡ slice_range t listed.now.start (listed.now.start + listed.now.size)) }

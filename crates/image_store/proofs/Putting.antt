@@ -8,7 +8,7 @@ use Rattle.caibx_codec.specs.Listing.{Listing, count_of, id_of, kind_of, slice_o
 use Rattle.chunk_store.proofs.Sends.{sends_on, sends_weaker}
 use Rattle.chunk_store.specs.Asks.{Ask, Get, Put, Sends, Sent}
 use Rattle.chunk_store.specs.Causes.{CountsCause}
-use Rattle.chunk_store.specs.Names.{name_of}
+use Rattle.chunk_store.specs.Digests.{digest_of}
 use Rattle.chunk_store.specs.Said.{AskedOnce, KeepsOf}
 use Rattle.chunk_store.specs.declared.id.DigestKind.{DigestKind}
 use Rattle.chunk_store.specs.declared.store.Store.{Ghosts as StoreWords}
@@ -41,12 +41,12 @@ sends_both id b r s t get put =
 pub sends_get : (id b : List ℕ) (r s : Sent) → Sends (λ a. a ≡ Get id) r s → Sends (λ a. (a ≡ Get id) ⊎ (a ≡ Put id b)) r s
 sends_get id b r s get = sends_weaker (λ a. a ≡ Get id) (λ a. (a ≡ Get id) ⊎ (a ≡ Put id b)) (λ a e. inl e) r s get
 
-named_ask : (kind : DigestKind) (id b : List ℕ) → name_of kind b ≡ id → (a : Ask) → (a ≡ Get id) ⊎ (a ≡ Put id b) → KeepsNamed kind id a
+named_ask : (kind : DigestKind) (id b : List ℕ) → digest_of kind b ≡ id → (a : Ask) → (a ≡ Get id) ⊎ (a ≡ Put id b) → KeepsNamed kind id a
 named_ask kind id b named a (inl get) = inl get
 named_ask kind id b named a (inr put) = inr (b, put, named)
 
 -- and the chunk has the name
-pub sends_named : (kind : DigestKind) (id b : List ℕ) (r s : Sent) → name_of kind b ≡ id → Sends (λ a. (a ≡ Get id) ⊎ (a ≡ Put id b)) r s → Sends (KeepsNamed kind id) r s
+pub sends_named : (kind : DigestKind) (id b : List ℕ) (r s : Sent) → digest_of kind b ≡ id → Sends (λ a. (a ≡ Get id) ⊎ (a ≡ Put id b)) r s → Sends (KeepsNamed kind id) r s
 sends_named kind id b r s named sends = sends_weaker (λ a. (a ≡ Get id) ⊎ (a ≡ Put id b)) (KeepsNamed kind id) (named_ask kind id b named) r s sends
 
 pub on_ok : {A E : Type 0} (r : Result A E) (P Q R : Type 0) → (P → Q → R) → OnOk r P → OnOk r Q → OnOk r R
@@ -59,7 +59,7 @@ end_at l told i less (Ok u) end = tt
 end_at l told i less (Err (faults.Changed entry was got)) end = changed told end where
   changed : (o : Option (List ℕ)) → EndsAt (kind_of l) i (id_of l i) (option_map (λ t. slice_of l t i) o) (faults.Changed entry was got) → PutsEnd l o (faults.Changed entry was got)
   changed None end = (λ e. end.2 (sym e ∙ end.1), omega (arith, end.0, less), end.1 ∙ sym (ap (id_of l) end.0), tt)
-  changed (Some t) end = (λ e. end.2 (sym e ∙ end.1), omega (arith, end.0, less), end.1 ∙ sym (ap (id_of l) end.0), end.3 ∙ ap (λ (k : ℕ). name_of (kind_of l) (slice_of l t k)) (sym end.0))
+  changed (Some t) end = (λ e. end.2 (sym e ∙ end.1), omega (arith, end.0, less), end.1 ∙ sym (ap (id_of l) end.0), end.3 ∙ ap (λ (k : ℕ). digest_of (kind_of l) (slice_of l t k)) (sym end.0))
 end_at l told i less (Err faults.TooManyItems) end = end
 end_at l told i less (Err faults.ImageFault) end = tt
 end_at l told i less (Err faults.StoreFault) end = tt

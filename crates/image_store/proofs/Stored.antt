@@ -4,7 +4,7 @@ use Rattle.std.proofs.lemmas.Bool.{cases_lt}
 use Rattle.std.specs.Option.{option_map}
 use Rattle.caibx_codec.specs.Listing.{Listing, id_of, kind_of, slice_of}
 use Rattle.caibx_codec.specs.Right.{IsRightAt}
-use Rattle.chunk_store.specs.Names.{name_of}
+use Rattle.chunk_store.specs.Digests.{digest_of}
 use Rattle.chunk_store.specs.Paths.{path_of}
 use Rattle.chunk_store.specs.Said.{Said, KeepsOf, AskedOnce}
 use Rattle.chunk_store.specs.declared.id.DigestKind.{DigestKind}
@@ -72,7 +72,7 @@ module _ (l : Listing) where
         go None h = tt
         go (Some m) h =
             subst (λ (x : List ℕ). Stands l t (i + 1) a (at_name m (id_of l i) (Some x))) (sym is)
-            (stands_put t i a m (ap (name_of (kind_of l)) (sym is) ∙ named) h)
+            (stands_put t i a m (ap (digest_of (kind_of l)) (sym is) ∙ named) h)
 
   -- ---- bytes of each name are held
 

@@ -7,7 +7,7 @@ use Rattle.caibx_codec.specs.Listing.{Listing, count_of, id_of, kind_of, slice_o
 use Rattle.caibx_codec.specs.Right.{IsRightAt}
 use Rattle.chunk_store.specs.Asks.{Ask, Get, Put, Sends}
 use Rattle.chunk_store.specs.Folders.{KeepsOthers}
-use Rattle.chunk_store.specs.Names.{name_of}
+use Rattle.chunk_store.specs.Digests.{digest_of}
 use Rattle.chunk_store.specs.Paths.{path_of}
 use Rattle.chunk_store.specs.Said.{AskedOnce, KeepsOf, Said}
 use Rattle.chunk_store.specs.declared.id.DigestKind.{DigestKind}
@@ -35,28 +35,28 @@ told_slice l i told = option_map (λ t. slice_of l t i) told
 abbrev pub PutsUnder : List ℕ → List ℕ → ToldMap → ToldMap → Type 0
 PutsUnder id b old new = new ≡ option_map (λ m. at_name m id (Some b)) old
 
--- each id holds what it held, or bytes of this name were put under it, which are those that are told
+-- each id holds what it held, or bytes of this digest were put under it, which are those that are told
 abbrev pub PutsRight : DigestKind → List ℕ → Option (List ℕ) → ToldMap → ToldMap → Type 0
 PutsRight kind id told old new =
-    (new ≡ old) ⊎ ((b : List ℕ) × (name_of kind b ≡ id) × IfSome told (λ t. b ≡ t) × PutsUnder id b old new)
+    (new ≡ old) ⊎ ((b : List ℕ) × (digest_of kind b ≡ id) × IfSome told (λ t. b ≡ t) × PutsUnder id b old new)
 
 -- the folder's files are as before; or the chunk wasn't held, and its own file and its temporary one may have changed
 abbrev pub PutsLacked : List ℕ → Option (List ℕ) → ToldMap → ToldMap → ToldMap → Type 0
 PutsLacked id told held old new =
     (new ≡ old) ⊎ (IfSome told (λ b. IfSome held (λ m. m id ≢ Some b)) × KeepsOthers id old new)
 
--- bytes of this name are held
+-- bytes of this digest are held
 abbrev pub HoldsNamed : DigestKind → List ℕ → Option (List ℕ) → Type 0
-HoldsNamed kind id held = (b : List ℕ) × (held ≡ Some b) × (name_of kind b ≡ id)
+HoldsNamed kind id held = (b : List ℕ) × (held ≡ Some b) × (digest_of kind b ≡ id)
 
--- the store has shown or taken bytes of this name under the id
+-- the store has shown or taken bytes of this digest under the id
 abbrev pub SaysNamed : DigestKind → List ℕ → Said → Type 0
-SaysNamed kind id said = (b : List ℕ) × (name_of kind b ≡ id) × (said.shown id b ⊎ said.taken id b)
+SaysNamed kind id said = (b : List ℕ) × (digest_of kind b ≡ id) × (said.shown id b ⊎ said.taken id b)
 
 -- why storing entry k of this id ended early, where the image's slice is `told`
 abbrev pub EndsAt : DigestKind → ℕ → List ℕ → Option (List ℕ) → MakeFault → Type 0
 EndsAt kind k id told (faults.Changed entry was got) =
-    (entry ≡ k) × (was.0 ≡ id) × (got.0 ≢ id) × IfSome told (λ b. got.0 ≡ name_of kind b)
+    (entry ≡ k) × (was.0 ≡ id) × (got.0 ≢ id) × IfSome told (λ b. got.0 ≡ digest_of kind b)
 EndsAt kind k id told faults.TooManyItems = ⊥
 EndsAt kind k id told faults.ImageFault = Unit {0}
 EndsAt kind k id told faults.StoreFault = Unit {0}
@@ -70,17 +70,18 @@ RereadsTo kind k id told faults.TooManyItems = ⊥
 RereadsTo kind k id told faults.StoreFault = ⊥
 RereadsTo kind k id told faults.Memory = ⊥
 
--- the chunk of this id is asked for, or bytes of this name are put under it
+-- the chunk of this id is asked for, or bytes of this digest are put under it
 abbrev pub KeepsNamed : DigestKind → List ℕ → Ask → Type 0
-KeepsNamed kind id a = (a ≡ Get id) ⊎ ((b : List ℕ) × (a ≡ Put id b) × (name_of kind b ≡ id))
+KeepsNamed kind id a = (a ≡ Get id) ⊎ ((b : List ℕ) × (a ≡ Put id b) × (digest_of kind b ≡ id))
 
 module _ {S : Type 0} (store : StoreWords S) (kind : DigestKind) (id : List ℕ) where
-  -- the store holds bytes of this name under the id, and has shown or taken some
+  -- the store holds bytes of this digest under the id, and has shown or taken some
   pub record HasChunk (now : S) : Type 0 where
     pub holds : IfSome (store.holds now) (λ m. HoldsNamed kind id (m id))
     pub says : SaysNamed kind id (store.said now)
 
-  -- it was asked for the chunk once at most, and at most bytes of this name were put under the id: those that are told
+  -- it was asked for the chunk at most once, and at most bytes of this digest were put under the id: those that are
+  -- told
   pub record TouchesChunk (told : Option (List ℕ)) (old new : S) : Type 0 where
     pub puts : PutsRight kind id told (store.holds old) (store.holds new)
     pub files : PutsLacked id told (store.holds old) (store.folder old) (store.folder new)
@@ -102,7 +103,7 @@ pub record IsListedId (l : Listing) (k : ℕ) (q : List ℕ) : Type 0 where
   pub below : entry < k
   pub id : q ≡ id_of l entry
 
--- the id q is one of theirs, and the image's slice is held under it, which has that name
+-- the id q is one of theirs, and the image's slice is held under it, which has that digest
 pub record IsStored (l : Listing) (t : List ℕ) (k : ℕ) (q : List ℕ) (held : Option (List ℕ)) : Type 0 where
   pub entry : ℕ
   pub below : entry < k
@@ -114,11 +115,11 @@ pub record IsStored (l : Listing) (t : List ℕ) (k : ℕ) (q : List ℕ) (held 
 abbrev pub Stands : Listing → List ℕ → ℕ → Map (List ℕ) → Map (List ℕ) → Type 0
 Stands l t k old new = (q : List ℕ) → (new q ≡ old q) ⊎ IsStored l t k q (new q)
 
--- under each of the ids bytes of that name are held
+-- under each of the ids bytes of that digest are held
 abbrev pub HoldsAll : Listing → ℕ → Map (List ℕ) → Type 0
 HoldsAll l k m = (i : ℕ) → i < k → HoldsNamed (kind_of l) (id_of l i) (m (id_of l i))
 
--- of each of the ids the store has shown or taken bytes of that name
+-- of each of the ids the store has shown or taken bytes of that digest
 abbrev pub SaysAll : Listing → ℕ → Said → Type 0
 SaysAll l k said = (i : ℕ) → i < k → SaysNamed (kind_of l) (id_of l i) said
 
@@ -144,7 +145,7 @@ pub record AsksEach (l : Listing) (k : ℕ) (old new : List ℕ → ℕ) : Type 
 abbrev pub PutsEnd : Listing → Option (List ℕ) → MakeFault → Type 0
 PutsEnd l told (faults.Changed entry was got) =
     (was.0 ≢ got.0) × (entry < count_of l) × (was.0 ≡ id_of l entry)
-    × IfSome told (λ t. got.0 ≡ name_of (kind_of l) (slice_of l t entry))
+    × IfSome told (λ t. got.0 ≡ digest_of (kind_of l) (slice_of l t entry))
 PutsEnd l told faults.TooManyItems = ⊥
 PutsEnd l told faults.ImageFault = Unit {0}
 PutsEnd l told faults.StoreFault = Unit {0}

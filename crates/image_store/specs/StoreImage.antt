@@ -28,7 +28,7 @@ IsOfCutting faults.StoreFault = ⊥
 IsOfCutting (faults.Changed k was got) = ⊥
 IsOfCutting other = Unit {0}
 
--- a fault of storing: what is named as changed has another name
+-- a fault of storing: what is named as changed has another digest
 abbrev pub IsOfStoring : MakeFault → Type 0
 IsOfStoring (faults.Changed k was got) = was.0 ≢ got.0
 IsOfStoring other = Unit {0}

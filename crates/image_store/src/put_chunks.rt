@@ -10,7 +10,7 @@ ghost use Rattle.caibx_codec.specs.Listing.{count_of, id_of, kind_of, size_of, i
 ghost use Rattle.caibx_codec.specs.Right.{IsRightAt};
 ghost use Rattle.chunk_store.specs.Asks.{Get, Put, Sends};
 ghost use Rattle.chunk_store.specs.Causes.{CountsCause};
-ghost use Rattle.chunk_store.specs.Names.{name_of};
+ghost use Rattle.chunk_store.specs.Digests.{digest_of};
 ghost use Rattle.chunk_store.specs.Said.{KeepsOf, AskedOnce};
 ghost use Rattle.dsy_base.specs.Counts.{CountsFaults};
 ghost use Rattle.image_slices.specs.Ahead.{IsSlice};
@@ -68,7 +68,7 @@ fn read_again<V: View>(
     chunk: &mut [u8],
 ) -> Result<(), MakeFault>
     requires inside { start + length chunk.old ≤ (V.held image.old).size }
-    ensures ok { OnOk result (name_of kind chunk.new ≡ id.now.0) }
+    ensures ok { OnOk result (digest_of kind chunk.new ≡ id.now.0) }
     ensures bytes { OnOk result (IfSome (V.held image.old).bytes
         (λ t. chunk.new ≡ slice_range t start (start + length chunk.old))) }
     ensures err { IfErr result (RereadsTo kind entry id.now.0
@@ -158,7 +158,7 @@ fn put_named<S: StoreWrite>(
     chunk: &[u8],
     room: &mut [u8],
 ) -> Result<(), MakeFault>
-    requires named { name_of kind chunk.now ≡ id.now.0 }
+    requires named { digest_of kind chunk.now ≡ id.now.0 }
     requires room { length room.old ≡ length chunk.now }
     ensures ok { OnOk result (HasChunk S.Store kind id.now.0 store.new) }
     ensures changed { TouchesChunk S.Store kind id.now.0 (Some chunk.now) store.old store.new }

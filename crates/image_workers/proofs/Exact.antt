@@ -22,7 +22,7 @@ use Rattle.chunk_sources.specs.Economy.{pass_asks, source_if, source_of}
 use Rattle.chunk_sources.specs.Sources.{Sources, SourcesQuiet, counts_of, sources, views_of}
 use Rattle.chunk_sources.specs.Wants.{Task}
 use Rattle.chunk_sources.specs.declared.kit.Kit.{Kit}
-use Rattle.chunk_store.specs.Names.{name_of}
+use Rattle.chunk_store.specs.Digests.{digest_of}
 use Rattle.chunk_store.specs.declared.store.Store.{Ghosts as StoreWords}
 use Rattle.dsy_base.specs.Bytes.{resized}
 use Rattle.dsy_base.specs.Counts.{Quiet, raised}
@@ -85,7 +85,7 @@ module _ {S V : Type 0} (store : StoreWords S) (view : ViewWords V) (r : Run) (d
     -- what it has settled is what is right in the base
     pub settled_as : IsTrue never → Quiet f g → IsTrue r.tells → (i : ℕ) → i < count_of r.listing → settled w0.fates i ≡ is_right_at r.listing r.base i
     settled_as sure quiet tells i inside =
-        let decides = bytes_eq-Decides (name_of (kind_of r.listing) (slice_of r.listing r.base i)) (id_of r.listing i) in
+        let decides = bytes_eq-Decides (digest_of (kind_of r.listing) (slice_of r.listing r.base i)) (id_of r.listing i) in
         elim (cases_Bool (settled w0.fates i)) [
           | inl is ↦ is ∙ sym (decides.1 (known.right tells i inside is))
           | inr isnt ↦ elim (cases_Bool (is_right_at r.listing r.base i)) [

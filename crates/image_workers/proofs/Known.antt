@@ -18,7 +18,7 @@ use Rattle.chunk_sources.specs.Economy.{as_upstream, origin_of, source_if, sourc
 use Rattle.chunk_sources.specs.Losses.{Had}
 use Rattle.chunk_sources.specs.Sources.{SeedsGive}
 use Rattle.chunk_sources.specs.Wants.{Task, want_chunk}
-use Rattle.chunk_store.specs.Names.{name_of}
+use Rattle.chunk_store.specs.Digests.{digest_of}
 use Rattle.dsy_base.specs.Bytes.{Held}
 use Rattle.dsy_base.specs.Maps.{Map}
 use Rattle.extract_plan.specs.Deal.{AreWants, Deal, first_of, want_id}
@@ -103,7 +103,7 @@ module _ (t : Task) (wants : AreWants t.listing t.plan.wants t.plan.want_of) (ba
   had_first : (i : ℕ) → i < count_of t.listing → IsObtainable t base views (cached ++ maps) i → Had m (want_chunk t (want_at t.plan i)) views (cached ++ maps)
   had_first i inside (inl (j, listed, alike, is)) =
       let size : length t.plan.want_of ≡ count_of t.listing = wants.size in
-      let decides = bytes_eq-Decides (name_of (kind_of t.listing) (slice_of t.listing base j)) (id_of t.listing j) in
+      let decides = bytes_eq-Decides (digest_of (kind_of t.listing) (slice_of t.listing base j)) (id_of t.listing j) in
       inl (j, among t.plan (want_at t.plan i) j (omega (arith, listed, size)) ((wants.alike j i listed inside).1 alike), right j listed ∙ decides.1 is)
   had_first i inside (inr source) =
       let l = t.listing in

@@ -8,7 +8,7 @@ use Rattle.cache_store.specs.Shelves.{Shelf, Stocks}
 use Rattle.cache_store.specs.declared.cached.Kept.TheVariants as kept
 use Rattle.chunk_store.specs.Folders.{chunks}
 use Rattle.chunk_store.specs.Gets.{GetGives}
-use Rattle.chunk_store.specs.Names.{IsId}
+use Rattle.chunk_store.specs.Digests.{IsId}
 use Rattle.chunk_store.specs.Paths.{path_of}
 use Rattle.chunk_store.specs.declared.store.GetFault.{GetFault}
 use Rattle.dir_store.specs.Names.{id_at_path, is_stranger, is_temporary}

@@ -5,7 +5,7 @@ use Rattle.chunk_proxy.proofs.Held.{all_damaged, all_lack}
 use Rattle.chunk_proxy.proofs.Sure.{no_rise}
 use Rattle.chunk_proxy.specs.Answers.{given_by_stores}
 use Rattle.chunk_proxy.specs.Obtaining.{IsRightChunk, any_size}
-use Rattle.chunk_store.specs.Names.{name_of}
+use Rattle.chunk_store.specs.Digests.{digest_of}
 use Rattle.chunk_store.specs.declared.id.ChunkId.{ChunkId}
 use Rattle.chunk_store.specs.declared.id.DigestKind.{DigestKind}
 use Rattle.chunk_store.specs.declared.store.Store.{Ghosts as StoreWords}
@@ -36,7 +36,7 @@ chain_stays store kind maps places old new held placed same is = record {
 pub right_chunk : (kind : DigestKind) (id : ChunkId) (room n : ℕ) (out b : List ℕ) → room ≡ size_limit → FillsQuery (query_of kind id None room) n out → b ≡ take n out
     → IsRightChunk kind id.0 b
 right_chunk kind id room n out b full fills is = record {
-  named = ap (name_of kind) is ∙ fills.wanted.named;
+  named = ap (digest_of kind) is ∙ fills.wanted.named;
   few = omega (arith, ap length is, full, fills.wanted.fits);
 }
 

@@ -10,7 +10,7 @@ use Rattle.chunk_server.specs.Reads.{ReadsFile}
 use Rattle.chunk_server.specs.Shelves.{AreAlikeButTemporaries, ServedFolder, ServesOrFails, answer_in}
 use Rattle.http_serve.specs.declared.service.Reply.{Reply}
 use Rattle.chunk_store.specs.Folders.{chunks}
-use Rattle.chunk_store.specs.Names.{IsId, name_of}
+use Rattle.chunk_store.specs.Digests.{IsId, digest_of}
 use Rattle.chunk_store.specs.Paths.{path_of}
 use Rattle.chunk_store.specs.declared.id.ChunkId.{ChunkId}
 use Rattle.chunk_store.specs.declared.id.DigestKind.{DigestKind}
@@ -78,15 +78,15 @@ module _ (kind : DigestKind) (first : Map (List ℕ)) (no_temporary : (id : List
         under i true e = inr (b, refl, subst (λ j. IsPuttable kind j b) ((bytes_eq-Decides id i).0 e) right)
         under i false e = k.ids i
 
-    put_if : (id b : List ℕ) → IsId id → length b ≤ size_limit → (t : Bool) → bytes_eq (name_of kind b) id ≡ t → (m : Map (List ℕ)) → KeepsChunks kind first m → KeepsChunks kind first (cond t (put_in m (path_of id) b) m)
-    put_if id b is few true e m k = kept_put id b is (record { named = (bytes_eq-Decides (name_of kind b) id).0 e; few = few }) m k
+    put_if : (id b : List ℕ) → IsId id → length b ≤ size_limit → (t : Bool) → bytes_eq (digest_of kind b) id ≡ t → (m : Map (List ℕ)) → KeepsChunks kind first m → KeepsChunks kind first (cond t (put_in m (path_of id) b) m)
+    put_if id b is few true e m k = kept_put id b is (record { named = (bytes_eq-Decides (digest_of kind b) id).0 e; few = few }) m k
     put_if id b is few false e m k = k
 
     -- a put
     kept_step : (id : ChunkId) (body : List ℕ) (r : Answer) (old new : ServedFolder) → IsId id.0 → length body ≤ size_limit → ServesOrFails kind old (act.Put id) body r new → KeepsOpening kind first old.files → KeepsOpening kind first new.files
     unfolding files_after
     kept_step id body r old new is few (inr fails) k = kept_alike old.files new.files fails.files k
-    kept_step id body r old new is few (inl step) k = subst (KeepsOpening kind first) (sym step.files) (kept_map (λ m. cond (bytes_eq (name_of kind body) id.0) (put_in m (path_of id.0) body) m) (put_if id.0 body is few (bytes_eq (name_of kind body) id.0) refl) old.files k)
+    kept_step id body r old new is few (inl step) k = subst (KeepsOpening kind first) (sym step.files) (kept_map (λ m. cond (bytes_eq (digest_of kind body) id.0) (put_in m (path_of id.0) body) m) (put_if id.0 body is few (bytes_eq (digest_of kind body) id.0) refl) old.files k)
 
 if_some : {P Q : Map (List ℕ) → Type 0} (o : Option (Map (List ℕ))) → ((m : Map (List ℕ)) → P m → Q m) → IfSome o P → IfSome o Q
 if_some None f p = tt

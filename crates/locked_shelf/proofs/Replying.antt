@@ -11,7 +11,7 @@ use Rattle.chunk_server.specs.declared.chunk_file.ReadMethod.{ReadMethod}
 use Rattle.chunk_server.specs.declared.chunk_file.ReadMethod.TheVariants as method
 use Rattle.http_serve.specs.declared.service.Reply.{Reply}
 use Rattle.chunk_store.specs.Folders.{chunks}
-use Rattle.chunk_store.specs.Names.{name_of}
+use Rattle.chunk_store.specs.Digests.{digest_of}
 use Rattle.chunk_store.specs.declared.id.ChunkId.{ChunkId}
 use Rattle.chunk_store.specs.declared.id.DigestKind.{DigestKind}
 use Rattle.dsy_base.specs.Counts.{Rose}
@@ -37,7 +37,7 @@ gives_still : (kind : DigestKind) (id : List ℕ) (first now : Option (List ℕ)
 gives_still kind id first now (inl same) given = subst (λ o. IsSome (chunk_held kind id o)) (sym same) given
 gives_still kind id first now (inr new) given =
     subst (λ o. IsSome (chunk_held kind id o)) (sym new.1)
-    (held_right kind id new.0 (bytes_eq (name_of kind new.0) id) (nat_le (length new.0) size_limit) ((bytes_eq-Decides (name_of kind new.0) id).1 new.2.named) (below (length new.0) size_limit new.2.few))
+    (held_right kind id new.0 (bytes_eq (digest_of kind new.0) id) (nat_le (length new.0) size_limit) ((bytes_eq-Decides (digest_of kind new.0) id).1 new.2.named) (below (length new.0) size_limit new.2.few))
 
 chunk_200 : (o : Option (List ℕ)) → IsSome o → (with_chunk o).status ≡ 200
 chunk_200 None h = absurd (cc)
@@ -82,14 +82,14 @@ module _ (kind : DigestKind) (first : Map (List ℕ)) (body : List ℕ) (r : Ans
     refused,
     λ named.
         let t = told kind first old.files k step.answer in
-        inl (t.2 ∙ ap (λ b. bare (cond b 200 400)) ((bytes_eq-Decides (name_of kind body) id.0).1 named)),
+        inl (t.2 ∙ ap (λ b. bare (cond b 200 400)) ((bytes_eq-Decides (digest_of kind body) id.0).1 named)),
   )
 
   not_500 : (a : Act) → (m : Map (List ℕ)) → a ≢ act.Refuse 500 → (answer_to kind m a body).status ≢ 500
   unfolding answer_to
   not_500 (act.Get id) m other = chunk_not_500 (chunk_held kind id.0 (chunks m id.0))
   not_500 (act.Head id) m other = length_not_500 (chunk_held kind id.0 (chunks m id.0))
-  not_500 (act.Put id) m other = if_not_500 (bytes_eq (name_of kind body) id.0)
+  not_500 (act.Put id) m other = if_not_500 (bytes_eq (digest_of kind body) id.0)
   not_500 act.Lost m other = λ e. absurd (omega (arith, e))
   not_500 (act.Refuse status) m other = λ e. other (ap act.Refuse e)
 
@@ -125,7 +125,7 @@ may_reply kind k opening never_fails a body (Ok r) old new first_none none taken
     }
 
 -- a body under its digest isn't refused
-pub taken_if_named : (kind k : DigestKind) (id : ChunkId) (body : List ℕ) (res : Result Reply Memory) → name_of kind body ≡ id.0 → k ≡ kind → IfOk res (λ r. RefusesOtherDigest k (act.Put id) body (answer_in r))
+pub taken_if_named : (kind k : DigestKind) (id : ChunkId) (body : List ℕ) (res : Result Reply Memory) → digest_of kind body ≡ id.0 → k ≡ kind → IfOk res (λ r. RefusesOtherDigest k (act.Put id) body (answer_in r))
 taken_if_named kind k id body (Err e) named same = tt
 taken_if_named kind k id body (Ok r) named same =
     subst (λ (j : DigestKind). RefusesOtherDigest j (act.Put id) body (answer_in r)) (sym same) (λ other. absurd (other named))

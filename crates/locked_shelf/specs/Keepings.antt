@@ -1,7 +1,7 @@
 -- What a shelf behind a lock holds: a folder that began with named files, and into which only right chunks were put.
 use Rattle.std.specs.Prelude.{◌≡◌, ℕ, ◌≤◌, ◌⊎◌, Bool, List, length, Option, Some, None, IsTrue}
 use Rattle.chunk_store.specs.Folders.{chunks}
-use Rattle.chunk_store.specs.Names.{name_of}
+use Rattle.chunk_store.specs.Digests.{digest_of}
 use Rattle.chunk_store.specs.declared.id.DigestKind.{DigestKind}
 use Rattle.dir_store.specs.Names.{is_stranger}
 use Rattle.dsy_base.specs.Maps.{Map}
@@ -14,7 +14,7 @@ pub record LockedRules : Type 0 where
 
 -- bytes that may be put under the id
 pub record IsPuttable (kind : DigestKind) (id b : List ℕ) : Type 0 where
-  pub named : name_of kind b ≡ id
+  pub named : digest_of kind b ≡ id
   pub few : length b ≤ size_limit
 
 -- what stands under an id is what stood there at first, or bytes that may be put there

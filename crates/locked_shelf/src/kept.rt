@@ -3,7 +3,7 @@
 ghost use Rattle.std.specs.Prelude.{◌≡◌, ◌≤◌, length, IfOk, IfSome, OnErr, Some};
 ghost use Rattle.chunk_server.specs.Shelves.{IsAnswer, answer_in};
 ghost use Rattle.chunk_store.specs.Kinds.{kind_named};
-ghost use Rattle.chunk_store.specs.Names.{name_of};
+ghost use Rattle.chunk_store.specs.Digests.{digest_of};
 ghost use Rattle.caibx_fields.specs.Limits.{size_limit};
 ghost use Rattle.http_wire.specs.declared.request.Act.TheVariants as act;
 ghost use Rattle.locked_shelf.specs.Keepings.{KeepsOpening};
@@ -69,7 +69,7 @@ impl<F: Folder> Kept<F> {
 
     /// Puts a body under its digest.
     pub fn put(&mut self, id: &ChunkId, body: &[u8]) -> Result<Reply, Memory>
-        requires named { name_of (kind_named F.kind) body.now ≡ id.now.0 }
+        requires named { digest_of (kind_named F.kind) body.now ≡ id.now.0 }
         requires size { length body.now ≤ size_limit }
         ensures only { IfOk result (λ r. IsAnswer (kind_named F.kind) (act.Put id.now) (answer_in r)) }
         ensures may { IfOk result (λ r. MayReply (kind_named F.kind) F.opening F.never_fails (act.Put id.now) body.now

@@ -5,7 +5,7 @@ use Rattle.std.proofs.lemmas.Bool.{cases_lt, true≢false}
 use Rattle.std.proofs.lemmas.List.{get_or-set_other, get_or-set_same}
 use Rattle.std.proofs.lemmas.List.Sums.{get_or-le-sum_by, sum_by-set}
 use Rattle.caibx_codec.specs.Listing.{Listing, Rules, count_of, id_of, image_length, kind_of, size_of, slice_of, start_of}
-use Rattle.chunk_store.specs.Names.{name_of}
+use Rattle.chunk_store.specs.Digests.{digest_of}
 use Rattle.dsy_base.specs.Bytes.{Held, held_written}
 use Rattle.dsy_base.specs.Counts.{CountsRefusals, Rose, raised}
 use Rattle.dsy_base.specs.Splits.{Left, held_joined}
@@ -54,17 +54,17 @@ module _ (r : Run) (left : Left) (tells : Bool) (ss : List Seen) (is : IsWhole r
         let good = told_at r ss is.shards at.i at.lt at.s at.here in
         let kept : IsKept r at.s (told_bytes at.s) =
         subst (λ o. IfSome o (IsKept r at.s)) (told_is at.s.held.bytes (good.tells ∙ told)) (good.kept.kept told) in
-        ap (name_of (kind_of r.listing)) (slice_in_whole r ss is.shards at.i at.lt at.s at.here e has told)
+        ap (digest_of (kind_of r.listing)) (slice_in_whole r ss is.shards at.i at.lt at.s at.here e has told)
         ∙ kept.right e has (ap is_settled (sym (fate_in r ss is.shards at.i at.lt at.s at.here e has)) ∙ is_set)
 
   -- what was read of a settled entry has its digest
   pub read_named : (e : ℕ) → e < count_of r.listing → (out : List ℕ) → settled all.fates e ≡ true → IfSome all.held.bytes (λ t. out ≡ slice_of r.listing t e)
-      → tells ≡ true → name_of (kind_of r.listing) out ≡ id_of r.listing e
+      → tells ≡ true → digest_of (kind_of r.listing) out ≡ id_of r.listing e
   read_named e listed out was read told = go tells told right read where
     go : (b : Bool) → b ≡ true → IfSome (if b then Some (joined_bytes ss) else None) (λ t. SettledRight r.listing t all.fates (count_of r.listing))
-        → IfSome (if b then Some (joined_bytes ss) else None) (λ t. out ≡ slice_of r.listing t e) → name_of (kind_of r.listing) out ≡ id_of r.listing e
+        → IfSome (if b then Some (joined_bytes ss) else None) (λ t. out ≡ slice_of r.listing t e) → digest_of (kind_of r.listing) out ≡ id_of r.listing e
     go false isnt rights here = absurd (true≢false (sym isnt))
-    go true is rights here = ap (name_of (kind_of r.listing)) here ∙ rights e listed was
+    go true is rights here = ap (digest_of (kind_of r.listing)) here ∙ rights e listed was
 
   module _ (i : ℕ) (lt : i < length ss) (s : Seen) (here : s ≡ get_or ss i s) (e : ℕ) (listed : e < count_of r.listing) (has : Has r s e) (new : Seen) where
     abbrev pub then_all : Whole
@@ -164,7 +164,7 @@ err_apart A x b y z is isnt same = absurd (true≢false (sym (ap is_err is) ∙ 
 
 module _ (l : Listing) (rules : Rules l) (e : ℕ) (listed : e < count_of l) (f : Fate) (set_is : is_settled f ≡ true) (made : is_made f ≡ true)
     (b : List ℕ) (size : length b ≡ size_of l e) (w v : Whole) (counted_w : length w.fates ≡ count_of l) (sized_w : IfSome w.held.bytes (λ t. length t ≡ w.held.size))
-    (whole : w.held.size ≡ image_length l) (named : IfSome w.held.bytes (λ t. name_of (kind_of l) b ≡ id_of l e)) (le : w.faults ≤ v.faults) where
+    (whole : w.held.size ≡ image_length l) (named : IfSome w.held.bytes (λ t. digest_of (kind_of l) b ≡ id_of l e)) (le : w.faults ≤ v.faults) where
   inside : e < length w.fates
   inside = omega (arith, listed, counted_w)
 
@@ -223,7 +223,7 @@ module _ (l : Listing) (rules : Rules l) (e : ℕ) (listed : e < count_of l) (f 
 -- the same of a put into one shard
 pub put_ends : (r : Run) (left : Left) (tells : Bool) (ss : List Seen) (is : IsWhole r tells left ss) (i : ℕ) (lt : i < length ss) (s : Seen) (here : s ≡ get_or ss i s)
     (e : ℕ) (listed : e < count_of r.listing) (has : Has r s e) (new : Seen) (f : Fate) → is_settled f ≡ true → is_made f ≡ true → (b : List ℕ) → length b ≡ size_of r.listing e
-    → IfSome (whole_of left tells ss).held.bytes (λ t. name_of (kind_of r.listing) b ≡ id_of r.listing e)
+    → IfSome (whole_of left tells ss).held.bytes (λ t. digest_of (kind_of r.listing) b ≡ id_of r.listing e)
     → (res : Result Bool Failed)
     → (res ≡ Ok true → (has_settled r s e ≡ false) × (new.fates ≡ set s.fates (e - first_in r s.number) f))
     → (res ≡ Ok true → new.held ≡ held_written s.held (begin_in (extent_of r s.number) e) b)

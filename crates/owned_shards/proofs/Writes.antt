@@ -8,7 +8,7 @@ use Rattle.std.proofs.Math.Seq.{drop-append_seam}
 use Rattle.std.specs.List.{Contains}
 use Rattle.caibx_codec.specs.Listing.{Listing, Rules, count_of, end_of, id_of, image_length, kind_of, size_of, slice_of, start_of}
 use Rattle.caibx_codec.specs.Right.{IsRightAt}
-use Rattle.chunk_store.specs.Names.{name_of}
+use Rattle.chunk_store.specs.Digests.{digest_of}
 use Rattle.dsy_base.specs.Bytes.{Held, held_written, written}
 use Rattle.dsy_base.specs.Counts.{Rose}
 use Rattle.range_survey.proofs.Excused.{excuses_none, excuses_one}
@@ -114,10 +114,10 @@ module _ (l : Listing) (rules : Rules l) (i : ℕ) (lt : i < count_of l) (x : Li
       set_apart : (j : ℕ) → j ≢ i → fate_at (set m i y) j ≡ fate_at m j
       set_apart j apart = get_or-set_other m i j y fate.Open apart
 
-      right_here : (t : List ℕ) → length t ≡ image_length l → name_of (kind_of l) x ≡ id_of l i → IsRightAt (over t) l i
-      right_here t size named = ap (name_of (kind_of l)) (slice_here t x (start_of l i) (inside_of t size) (end_of l i) ends) ∙ named
+      right_here : (t : List ℕ) → length t ≡ image_length l → digest_of (kind_of l) x ≡ id_of l i → IsRightAt (over t) l i
+      right_here t size named = ap (digest_of (kind_of l)) (slice_here t x (start_of l i) (inside_of t size) (end_of l i) ends) ∙ named
 
-      fills_written : (t : List ℕ) → length t ≡ image_length l → name_of (kind_of l) x ≡ id_of l i → Fills l m (set m i y) a b t (over t)
+      fills_written : (t : List ℕ) → length t ≡ image_length l → digest_of (kind_of l) x ≡ id_of l i → Fills l m (set m i y) a b t (over t)
       fills_written t size named = record {
         failed = [];
         excused = excuses_none a b ab;
@@ -131,13 +131,13 @@ module _ (l : Listing) (rules : Rules l) (i : ℕ) (lt : i < count_of l) (x : Li
       }
 
       told_of : (o p : Option (List ℕ)) → p ≡ option_map over o → IfSome o (λ t. length t ≡ image_length l)
-          → IfSome o (λ t. name_of (kind_of l) x ≡ id_of l i) → WhereTold o p (Fills l m (set m i y) a b)
+          → IfSome o (λ t. digest_of (kind_of l) x ≡ id_of l i) → WhereTold o p (Fills l m (set m i y) a b)
       told_of None p is sized named = tt
       told_of (Some t) p is sized named = subst (λ q. IfSome q (Fills l m (set m i y) a b t)) (sym is) (fills_written t sized named)
 
       -- the same of an object that may tell its bytes
       pub told_written : (h k : Held) (at : ℕ) → at ≡ start_of l i → k ≡ held_written h at x → h.size ≡ image_length l
-          → IfSome h.bytes (λ t. length t ≡ h.size) → IfSome h.bytes (λ t. name_of (kind_of l) x ≡ id_of l i)
+          → IfSome h.bytes (λ t. length t ≡ h.size) → IfSome h.bytes (λ t. digest_of (kind_of l) x ≡ id_of l i)
           → WhereTold h.bytes k.bytes (Fills l m (set m i y) a b)
       told_written h k at here is size sized named = told_of h.bytes k.bytes (bytes_after h k at here is) (as_long h.bytes h.size (image_length l) size sized) named
 

@@ -14,7 +14,7 @@ use dsy_base::view::{Part, View};
 use range_ledger::run::RunName;
 use range_ledger::shard::Shard;
 use range_ledger::unread::Unread;
-use range_survey::zeros::ZeroNames;
+use range_survey::zeros::ZeroDigests;
 use std::alloc::{AllocError, Global};
 use std::mem::swap;
 use std::thread;
@@ -107,7 +107,7 @@ fn change_buffers<'a, P: Part, R: RunName>(lanes: &mut [Lane<'a, P, R>], buffers
 // All workers survey their shards, side by side.
 fn go_all<'a, W: Threads + Sync, P: Part + Send, R: RunName + Send + Sync>(
     rt: &W,
-    zeros: &(ZeroNames, u64),
+    zeros: &(ZeroDigests, u64),
     lanes: &mut [Lane<'a, P, R>],
 )
     requires some { 0 < length lanes.old }
@@ -143,7 +143,7 @@ fn go_all<'a, W: Threads + Sync, P: Part + Send, R: RunName + Send + Sync>(
 /// All workers survey their shards, side by side, each with a buffer of its own. They have room for the largest entry.
 pub(crate) fn survey_all<'a, W: Threads + Sync, P: Part + Send, R: RunName + Send + Sync>(
     rt: &W,
-    zeros: &(ZeroNames, u64),
+    zeros: &(ZeroDigests, u64),
     lanes: &mut [Lane<'a, P, R>],
     buffers: &mut [Vec<u8>],
 )

@@ -4,7 +4,7 @@
 ghost use Rattle.std.specs.Prelude.{◌≡◌, IsTrue, OnErr, length, true, false};
 ghost use Rattle.caibx_codec.specs.Listing.{id_of, kind_of, size_of};
 ghost use Rattle.caibx_codec.specs.Right.{IsRightAt};
-ghost use Rattle.chunk_store.specs.Names.{name_of};
+ghost use Rattle.chunk_store.specs.Digests.{digest_of};
 ghost use Rattle.range_ledger.specs.Extents.{IsIn};
 ghost use Rattle.range_ledger.specs.Runs.{MayFill, extent_of};
 ghost use Rattle.range_survey.specs.Fates.{is_settled};
@@ -52,7 +52,7 @@ impl<'i, P: Part, R: RunName> ShardLock<'i, P, R> {
         requires tells { P.tells ≡ R.run.tells }
         requires kept { IsTrue R.run.tells → known ≡ fate.Kept → IsRightAt R.run.base R.run.listing entry }
         ensures named { result ≡ true → IsTrue R.run.tells →
-            name_of (kind_of R.run.listing) out.new ≡ id_of R.run.listing entry }
+            digest_of (kind_of R.run.listing) out.new ≡ id_of R.run.listing entry }
         ensures only { result ≡ false → IsTrue R.run.tells → IsTrue P.never_fails → ⊥ }
         ensures free { hand.new.is_free ≡ true }
     {

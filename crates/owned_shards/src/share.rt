@@ -11,7 +11,7 @@ use dsy_base::view::{Part, View};
 use range_ledger::run::RunName;
 use range_ledger::shard::Shard;
 use range_ledger::unread::Unread;
-use range_survey::zeros::ZeroNames;
+use range_survey::zeros::ZeroDigests;
 use std::alloc::{AllocError, Global};
 
 /// The shards that a worker has still to survey, the first one first, and those that it has surveyed, the last one
@@ -43,7 +43,7 @@ fn move_last<X: Drop>(from: &mut Vec<X>, to: &mut Vec<X>, count: usize)
 // The shard after its survey. All bytes of the target from `old` on are zeros.
 fn surveyed<'a, P: Part, R: RunName>(
     unread: Unread<'a, P, R>,
-    zeros: &(ZeroNames, u64),
+    zeros: &(ZeroDigests, u64),
     buf: &mut [u8],
 ) -> Shard<'a, P, R>
     requires unread { IsUnsurveyed R.run unread }
@@ -88,7 +88,7 @@ impl<'a, P: Part, R: RunName> Share<'a, P, R> {
     }
 
     /// Surveys its shards. `buf` has room for the largest entry.
-    pub fn survey(&mut self, zeros: &(ZeroNames, u64), buf: &mut [u8])
+    pub fn survey(&mut self, zeros: &(ZeroDigests, u64), buf: &mut [u8])
         requires ready { AwaitsSurvey R.run self.old }
         requires tells { P.tells ≡ R.run.tells }
         requires zeros { IsTrue R.run.tells → ZerosFrom zeros.now.1 R.run.base }

@@ -23,7 +23,7 @@ use range_ledger::run::RunName;
 use range_ledger::shard::Shard;
 use range_ledger::unread::{Unread, open_fates};
 use range_survey::fate::Fate;
-use range_survey::zeros::ZeroNames;
+use range_survey::zeros::ZeroDigests;
 use std::alloc::{AllocError, Global};
 use std::thread::Threads;
 
@@ -152,7 +152,7 @@ impl<'a, P: Part, R: RunName> Room<'a, P, R> {
         rt: &W,
         plan: &Plan,
         parts: Vec<P>,
-        zeros: &(ZeroNames, u64),
+        zeros: &(ZeroDigests, u64),
         buffers: &mut [Vec<u8>],
     ) -> (Vec<Shard<'a, P, R>>, Vec<P>)
     where
@@ -192,17 +192,17 @@ impl<'a, P: Part, R: RunName> Room<'a, P, R> {
 }
 
 // The names of zeros past `old`, with the first of the buffers.
-fn zero_names(
+fn zero_digests(
     alloc: Global,
     index: &Index,
     old: u64,
     buffers: &mut [Vec<u8>],
-) -> Result<ZeroNames, AllocError>
+) -> Result<ZeroDigests, AllocError>
     requires some { 0 < length buffers.old }
     requires room { All (λ b. TakesEach index.now (vec_len b)) buffers.old }
     ensures room { map (λ b. vec_len b) buffers.new ≡ map (λ b. vec_len b) buffers.old }
 {
-    ZeroNames::of(alloc, index, old, &mut buffers[0])
+    ZeroDigests::of(alloc, index, old, &mut buffers[0])
 }
 
 // Why a target wasn't split, as its other calls say it.
@@ -255,12 +255,12 @@ where
         Ok(()) => {}
         Err(fault) => return Err((target, fault)),
     }
-    let Ok(names) = zero_names(alloc, index, old, buffers) else {
+    let Ok(digests) = zero_digests(alloc, index, old, buffers) else {
         return Err((target, IoFault::Memory));
     };
     match target.split(plan.cuts()) {
         Ok((rest, parts)) => {
-            let (shards, parts) = room.survey(rt, plan, parts, &(names, old), buffers);
+            let (shards, parts) = room.survey(rt, plan, parts, &(digests, old), buffers);
             Ok(Shards::new(index, rest, shards, parts))
         }
         Err((target, fault)) => Err((target, io_fault(fault))),

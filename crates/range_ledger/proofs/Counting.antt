@@ -6,7 +6,7 @@ use Rattle.dsy_base.specs.Bytes.{Held}
 use Rattle.dsy_base.specs.Counts.{CountsRefusals, Rose}
 use Rattle.dsy_base.specs.declared.fault.Failed.{Failed}
 use Rattle.caibx_codec.specs.Listing.{kind_of, slice_of}
-use Rattle.chunk_store.specs.Names.{name_of}
+use Rattle.chunk_store.specs.Digests.{digest_of}
 use Rattle.range_survey.specs.Fates.{settled}
 use Rattle.range_survey.specs.declared.fate.Fate.{Fate}
 use Rattle.range_ledger.proofs.Keeps.{same_seen}
@@ -215,9 +215,9 @@ module _ (r : Run) (old : Seen) (dealt : IsDealtShard r old) (marks : List Fate)
       failed = m.failed;
       few = elim m.few [ inl few ↦ inl (omega (arith, few)) | inr most ↦ inr most ];
       right = right;
-      filled = λ e has set. inl (ap (name_of (kind_of r.listing)) (sym (slices e has)) ∙ right e has set);
+      filled = λ e has set. inl (ap (digest_of (kind_of r.listing)) (sym (slices e has)) ∙ right e has set);
       untouched = λ e has unset. inl (slices e has);
-      base_right = λ e has named. decide e has (ap (name_of (kind_of r.listing)) (slices e has) ∙ named);
+      base_right = λ e has named. decide e has (ap (digest_of (kind_of r.listing)) (slices e has) ∙ named);
       base_kept = λ e has named. inl (slices e has);
     } where
       slices : (e : ℕ) → Has r old e → slice_at r old t e ≡ slice_of r.listing r.base e

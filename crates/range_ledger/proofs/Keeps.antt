@@ -4,7 +4,7 @@ use Rattle.std.proofs.lemmas.Bool.{cases_eq}
 use Rattle.std.proofs.lemmas.List.{get_or-set_same, get_or-set_other, length-set}
 use Rattle.std.specs.Option.{option_map}
 use Rattle.caibx_codec.specs.Listing.{kind_of, size_of, slice_of}
-use Rattle.chunk_store.specs.Names.{name_of}
+use Rattle.chunk_store.specs.Digests.{digest_of}
 use Rattle.dsy_base.specs.Bytes.{Held, held_written}
 use Rattle.dsy_base.specs.Counts.{Rose}
 use Rattle.range_survey.specs.Fates.{is_settled}
@@ -97,8 +97,8 @@ module _ (r : Run) (s : Seen) (is : IsShard r s) where
       few = more k.failed s.faults count le k.few;
       right = λ j at set. elim (cases_eq j e) [
         | inl same ↦ subst (λ i. IsRightIn (extent_of r s.number) (put_in_extent (extent_of r s.number) e b t) i) (sym same)
-            (ap (name_of (kind_of r.listing)) (put_here (extent_of r s.number) is.dealt.valid e has b may.size t long) ∙ may.named tells)
-        | inr differ ↦ ap (name_of (kind_of r.listing)) (put_other (extent_of r s.number) is.dealt.valid e has b may.size t long j at differ)
+            (ap (digest_of (kind_of r.listing)) (put_here (extent_of r s.number) is.dealt.valid e has b may.size t long) ∙ may.named tells)
+        | inr differ ↦ ap (digest_of (kind_of r.listing)) (put_other (extent_of r s.number) is.dealt.valid e has b may.size t long j at differ)
             ∙ k.right j at (sym (set_other f count held j at differ) ∙ set)
       ];
       filled = λ j at set. elim (cases_eq j e) [
@@ -144,7 +144,7 @@ module _ (r : Run) (s : Seen) (is : IsShard r s) where
       few = one_more k.failed e s.faults count rose le k.few;
       right = λ j at set. elim (cases_eq j e) [
         | inl same ↦ clash (has_settled r s e) (subst (λ i. has_settled r s i ≡ true) same set) unset
-        | inr differ ↦ ap (name_of (kind_of r.listing)) (put_other (extent_of r s.number) is.dealt.valid e has y size t long j at differ) ∙ k.right j at set
+        | inr differ ↦ ap (digest_of (kind_of r.listing)) (put_other (extent_of r s.number) is.dealt.valid e has y size t long j at differ) ∙ k.right j at set
       ];
       filled = k.filled;
       untouched = λ j at left. elim (cases_eq j e) [

@@ -3,7 +3,7 @@ use Rattle.std.proofs.Common.{◌≡◌, ℕ, ◌<◌, Bool, true, false, ◌||�
 use Rattle.std.proofs.lemmas.Bool.{cases_eq}
 use Rattle.std.proofs.lemmas.Bool.Decides.{nat_tests}
 use Rattle.caibx_codec.specs.Listing.{Listing, count_of, kind_of}
-use Rattle.chunk_store.specs.Names.{name_of}
+use Rattle.chunk_store.specs.Digests.{digest_of}
 use Rattle.range_ledger.proofs.Laid.{put_size, put_here, put_other}
 use Rattle.range_ledger.specs.Extents.{Extent, IsIn, IsRightIn, IsValidExtent, length_in, put_in_extent, slice_in, whole}
 use Rattle.range_ledger.specs.Machine.{State, Event, Settle, Read, Put, Skip, Torn, begin, with_entry, Allowed, after, IsRun, run, Good, IsRunOf, StaysSettled, state_after}
@@ -46,8 +46,8 @@ module _ (x : Extent) (base : List ℕ) (laid : IsValidExtent x) where
   step s (Put i b) g a = record {
     size = put_size x laid i a.0 b a.2.size s.bytes g.size;
     right = λ j less h. elim (cases_eq j i) [
-      | inl same ↦ subst (λ k. IsRightIn x (put_in_extent x i b s.bytes) k) (sym same) (ap (name_of (kind_of x.listing)) (put_here x laid i a.0 b a.2.size s.bytes g.size) ∙ a.2.named)
-      | inr differ ↦ ap (name_of (kind_of x.listing)) (put_other x laid i a.0 b a.2.size s.bytes g.size j less differ) ∙ g.right j less (sym (with_other s.settled i j differ) ∙ h)
+      | inl same ↦ subst (λ k. IsRightIn x (put_in_extent x i b s.bytes) k) (sym same) (ap (digest_of (kind_of x.listing)) (put_here x laid i a.0 b a.2.size s.bytes g.size) ∙ a.2.named)
+      | inr differ ↦ ap (digest_of (kind_of x.listing)) (put_other x laid i a.0 b a.2.size s.bytes g.size j less differ) ∙ g.right j less (sym (with_other s.settled i j differ) ∙ h)
     ];
     untouched = λ j less h k. elim (cases_eq j i) [
       | inl same ↦ absurd (apart (with_entry s.settled i j) (subst (λ k. with_entry s.settled i k ≡ true) (sym same) (with_here s.settled i)) h)
@@ -58,7 +58,7 @@ module _ (x : Extent) (base : List ℕ) (laid : IsValidExtent x) where
     size = put_size x laid i a.0 b a.2 s.bytes g.size;
     right = λ j less h. elim (cases_eq j i) [
       | inl same ↦ absurd (apart (s.settled i) (subst (λ k. s.settled k ≡ true) same h) a.1)
-      | inr differ ↦ ap (name_of (kind_of x.listing)) (put_other x laid i a.0 b a.2 s.bytes g.size j less differ) ∙ g.right j less h
+      | inr differ ↦ ap (digest_of (kind_of x.listing)) (put_other x laid i a.0 b a.2 s.bytes g.size j less differ) ∙ g.right j less h
     ];
     untouched = λ j less h k. elim (cases_eq j i) [
       | inl same ↦ absurd (apart (with_entry s.torn i j) (subst (λ k. with_entry s.torn i k ≡ true) (sym same) (with_here s.torn i)) k)

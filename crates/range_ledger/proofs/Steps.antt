@@ -4,7 +4,7 @@ use Rattle.std.proofs.lemmas.Bool.{cases_eq}
 use Rattle.std.specs.Option.{option_map}
 use Rattle.std.specs.Prelude.{OnOk}
 use Rattle.caibx_codec.specs.Listing.{id_of, kind_of, size_of}
-use Rattle.chunk_store.specs.Names.{name_of}
+use Rattle.chunk_store.specs.Digests.{digest_of}
 use Rattle.dsy_base.specs.Bytes.{Held, held_written}
 use Rattle.range_survey.specs.Fates.{is_settled, settled}
 use Rattle.range_survey.specs.declared.fate.Fate.{Fate}
@@ -58,10 +58,10 @@ module _ (r : Run) (old : Seen) (is : IsShard r old) (e : ℕ) (has : Has r old 
 
     pub read_right : (from out : List ℕ) (at : ℕ) → at ≡ begin_in (extent_of r old.number) e → length from ≡ size_of r.listing e
         → IfSome old.held.bytes (λ t. out ≡ slice_range t at (at + length from))
-        → WhereTells r old new (λ _ _. name_of (kind_of r.listing) out ≡ id_of r.listing e)
+        → WhereTells r old new (λ _ _. digest_of (kind_of r.listing) out ≡ id_of r.listing e)
     read_right from out at there size read = unwritten r old new _ held
         (λ tells. within old.held.bytes read (is.kept tells)
-        (λ t b k. ap (name_of (kind_of r.listing)) (b ∙ whole_slice t from at there size) ∙ k.right e has set))
+        (λ t b k. ap (digest_of (kind_of r.listing)) (b ∙ whole_slice t from at there size) ∙ k.right e has set))
 
     pub skip_leads : WhereTells r old new (Leads r (Skip e ∷ []) old new)
     skip_leads = unwritten r old new _ held (λ tells. within old.held.bytes (is.kept tells) (is.kept tells) (λ t k _. record {

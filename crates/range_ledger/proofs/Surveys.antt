@@ -3,7 +3,7 @@ use Rattle.std.proofs.Common.{◌≡◌, ◌≢◌, ◌⊎◌, ℕ, zero, suc, �
 use Rattle.std.proofs.lemmas.Bool.{cases_eq, cases_lt, true≢false}
 use Rattle.std.proofs.lemmas.List.{get_or-set_same, get_or-set_other, length-set, drop-take, drop-drop, set_past}
 use Rattle.caibx_codec.specs.Listing.{Listing, end_of, id_of, kind_of, size_of, slice_of, start_of}
-use Rattle.chunk_store.specs.Names.{name_of}
+use Rattle.chunk_store.specs.Digests.{digest_of}
 use Rattle.dsy_base.specs.Bytes.{Held}
 use Rattle.range_survey.specs.Fates.{FirstFates, fate_at, is_settled, settled}
 use Rattle.range_survey.specs.declared.fate.Fate.{Fate}
@@ -79,11 +79,11 @@ settle_unread r old new e is has number held one named = record {
 
 -- what was read is the range, and has its digest
 pub named_in : (r : Run) (s : Seen) (e : ℕ) (out : List ℕ) → IfSome s.held.bytes (λ t. out ≡ slice_at r s t e)
-    → name_of (kind_of r.listing) out ≡ id_of r.listing e → IfSome s.held.bytes (λ t. IsRightIn (extent_of r s.number) t e)
+    → digest_of (kind_of r.listing) out ≡ id_of r.listing e → IfSome s.held.bytes (λ t. IsRightIn (extent_of r s.number) t e)
 named_in r s e out read named = go s.held.bytes read where
   go : (o : Option (List ℕ)) → IfSome o (λ t. out ≡ slice_at r s t e) → IfSome o (λ t. IsRightIn (extent_of r s.number) t e)
   go None h = tt
-  go (Some t) h = ap (name_of (kind_of r.listing)) (sym h) ∙ named
+  go (Some t) h = ap (digest_of (kind_of r.listing)) (sym h) ∙ named
 
 -- a call that writes nothing
 pub kept_unread : (r : Run) (old new : Seen) → IsUnread r old → new.number ≡ old.number → new.fates ≡ old.fates → new.held ≡ old.held → IsUnread r new

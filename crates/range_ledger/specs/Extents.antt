@@ -1,7 +1,7 @@
 -- The entries of an index that one part of a target holds. Entries count from 0, offsets are bytes from 0.
 use Rattle.std.specs.Prelude.{◌≡◌, ℕ, ◌-◌, ◌<◌, ◌≤◌, List, length, slice_range}
 use Rattle.caibx_codec.specs.Listing.{Listing, Rules, count_of, end_of, id_of, kind_of, size_of, start_of}
-use Rattle.chunk_store.specs.Names.{name_of}
+use Rattle.chunk_store.specs.Digests.{digest_of}
 use Rattle.dsy_base.specs.Bytes.{written}
 
 -- the entries from `from` up to `to` of an index. Their bytes lie one after the other, from offset 0 on
@@ -43,7 +43,7 @@ slice_in x t i = slice_range t (begin_in x i) (end_in x i)
 
 -- they have the listed digest
 abbrev pub IsRightIn : Extent → List ℕ → ℕ → Type 0
-IsRightIn x t i = name_of (kind_of x.listing) (slice_in x t i) ≡ id_of x.listing i
+IsRightIn x t i = digest_of (kind_of x.listing) (slice_in x t i) ≡ id_of x.listing i
 
 -- t with b written over the range of entry i
 abbrev pub put_in_extent : Extent → ℕ → List ℕ → List ℕ → List ℕ
@@ -52,4 +52,4 @@ put_in_extent x i b t = written t (begin_in x i) b
 -- b is the chunk of entry i
 pub record IsChunkOf (x : Extent) (i : ℕ) (b : List ℕ) : Type 0 where
   pub size : length b ≡ size_of x.listing i
-  pub named : name_of (kind_of x.listing) b ≡ id_of x.listing i
+  pub named : digest_of (kind_of x.listing) b ≡ id_of x.listing i

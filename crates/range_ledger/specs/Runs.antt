@@ -3,7 +3,7 @@ use Rattle.std.specs.Prelude.{◌≡◌, ◌≢◌, ◌⊎◌, ℕ, ◌+◌, ◌
 use Rattle.std.specs.Prelude.{Bool, true, false, IfSome, IsTrue, zero, suc, if◌then◌else◌}
 use Rattle.caibx_codec.specs.Listing.{Listing, count_of, id_of, kind_of, size_of, slice_of, start_of}
 use Rattle.caibx_codec.specs.Right.{IsRightAt}
-use Rattle.chunk_store.specs.Names.{name_of}
+use Rattle.chunk_store.specs.Digests.{digest_of}
 use Rattle.dsy_base.specs.Bytes.{Held}
 use Rattle.extract_plan.specs.Deal.{Deal, deal_shards, shard_start}
 use Rattle.range_survey.specs.Fates.{settled}
@@ -120,7 +120,7 @@ WasSurveyed r s = IsTrue r.tells → IfSome s.held.bytes (IsKept r s)
 -- the bytes may be put into entry e: they are its chunk, and it may be filled
 pub record MayFill (r : Run) (e : ℕ) (b : List ℕ) : Type 0 where
   pub size : length b ≡ size_of r.listing e
-  pub named : IsTrue r.tells → name_of (kind_of r.listing) b ≡ id_of r.listing e
+  pub named : IsTrue r.tells → digest_of (kind_of r.listing) b ≡ id_of r.listing e
   pub may : r.may e ≡ true
 
 -- entry e is settled, and of the others those that were

@@ -20,7 +20,7 @@ use dsy_base::view::{Part, View};
 use extract_plan::plan::Plan;
 use range_survey::fate::Fate;
 use range_survey::look::has_digest;
-use range_survey::zeros::ZeroNames;
+use range_survey::zeros::ZeroDigests;
 use std::marker::{Model, PhantomData};
 
 /// A part of a target, its entries, and what became of each.
@@ -150,7 +150,7 @@ impl<'a, P: Part, R: RunName> Entries<'a, P, R> {
     /// isn't read where the table has its size.
     pub(crate) fn has_digest(
         &mut self,
-        zeros: &ZeroNames,
+        zeros: &ZeroDigests,
         old: u64,
         entry: usize,
         buf: &mut [u8],

@@ -3,7 +3,7 @@
 ghost use Rattle.std.specs.Prelude.{◌≡◌, ◌≢◌, ℕ, List, ◌<◌, ◌≤◌, length, set, true, false, Ok, IfSome, OnOk, OnErr};
 ghost use Rattle.std.specs.Prelude.{Bool, IsTrue, is_some};
 ghost use Rattle.caibx_codec.specs.Listing.{count_of, id_of, image_length, kind_of, size_of, slice_of};
-ghost use Rattle.chunk_store.specs.Names.{name_of};
+ghost use Rattle.chunk_store.specs.Digests.{digest_of};
 ghost use Rattle.dsy_base.specs.Bytes.{Held};
 ghost use Rattle.dsy_base.specs.Counts.{Rose};
 ghost use Rattle.range_ledger.specs.Fills.{Fills, FillsTorn, Grows, WhereTold};
@@ -55,7 +55,8 @@ pub trait Ledger: Drop {
         requires size { length out.old ≡ size_of run.listing entry }
         ensures found { result ≡ true → (settled (fates self.old) entry ≡ true)
             × IfSome (held self.old).bytes (λ t. out.new ≡ slice_of run.listing t entry) }
-        ensures named { result ≡ true → IsTrue tells → name_of (kind_of run.listing) out.new ≡ id_of run.listing entry }
+        ensures named { result ≡ true → IsTrue tells →
+            digest_of (kind_of run.listing) out.new ≡ id_of run.listing entry }
         ensures absent { result ≡ false → settled (fates self.old) entry ≡ true →
             Rose (faults self.old) (faults self.new) }
         ensures kept { held self.new ≡ held self.old }
@@ -70,7 +71,7 @@ pub trait Ledger: Drop {
         requires fate { is_settled fate ≡ true }
         requires made { is_made fate ≡ true }
         requires may { run.may entry ≡ true }
-        requires right { IsTrue tells → name_of (kind_of run.listing) chunk.now ≡ id_of run.listing entry }
+        requires right { IsTrue tells → digest_of (kind_of run.listing) chunk.now ≡ id_of run.listing entry }
         ensures ok { OnOk result (settled (fates self.new) entry ≡ true) }
         ensures origin { settled (fates self.old) entry ≡ false → settled (fates self.new) entry ≡ true →
             fate_at (fates self.new) entry ≡ fate }

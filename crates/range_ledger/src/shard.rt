@@ -3,7 +3,7 @@
 ghost use Rattle.std.specs.Prelude.{◌≡◌, ◌∷◌, ◌-◌, ◌≤◌, ℕ, List, [], length, set, true, false};
 ghost use Rattle.std.specs.Prelude.{is_some, IfSome, IsTrue, Ok, OnErr, OnOk};
 ghost use Rattle.caibx_codec.specs.Listing.{id_of, kind_of, size_of};
-ghost use Rattle.chunk_store.specs.Names.{name_of};
+ghost use Rattle.chunk_store.specs.Digests.{digest_of};
 ghost use Rattle.dsy_base.specs.Bytes.{held_written};
 ghost use Rattle.dsy_base.specs.Counts.{CountsRefusals, Rose};
 ghost use Rattle.range_ledger.specs.Extents.{begin_in};
@@ -86,7 +86,7 @@ impl<'a, P: Part, R: RunName> Shard<'a, P, R> {
         ensures exactly { OnOk result (WhereTells R.run self.old self.new
             (Leads R.run (Read entry out.new ∷ []) self.old self.new)) }
         ensures right { OnOk result (WhereTells R.run self.old self.new
-            (λ _ _. name_of (kind_of R.run.listing) out.new ≡ id_of R.run.listing entry)) }
+            (λ _ _. digest_of (kind_of R.run.listing) out.new ≡ id_of R.run.listing entry)) }
         ensures bytes { OnOk result (IfSome self.old.held.bytes (λ t. out.new ≡ slice_at R.run self.old t entry)) }
         ensures number { self.new.number ≡ self.old.number }
         ensures kept { self.new.fates ≡ self.old.fates }

@@ -20,7 +20,7 @@ use dsy_base::fault::Failed;
 use dsy_base::view::{Part, View};
 use extract_plan::plan::Plan;
 use range_survey::fate::Fate;
-use range_survey::zeros::ZeroNames;
+use range_survey::zeros::ZeroDigests;
 use std::alloc::{AllocError, Global};
 use std::marker::Model;
 
@@ -130,7 +130,7 @@ impl<'a, P: Part, R: RunName> Unread<'a, P, R> {
     // Settles an entry where its range has its digest. Whether it has.
     fn look_at(
         &mut self,
-        zeros: &ZeroNames,
+        zeros: &ZeroDigests,
         old: u64,
         entry: usize,
         buf: &mut [u8],
@@ -164,7 +164,7 @@ impl<'a, P: Part, R: RunName> Unread<'a, P, R> {
     /// Settles exactly those entries whose bytes have the listed digest. An entry whose read failed stays unsettled.
     /// The target's bytes from `old` on are zeros, and a range there isn't read where the table has its size. `buf` has
     /// room for the largest entry.
-    pub fn survey(&mut self, zeros: &ZeroNames, old: u64, buf: &mut [u8]) -> Surveyed
+    pub fn survey(&mut self, zeros: &ZeroDigests, old: u64, buf: &mut [u8]) -> Surveyed
         requires none { (e : ℕ) → has_settled R.run self.old e ≡ false }
         requires room { (e : ℕ) → Has R.run self.old e → size_of R.run.listing e ≤ length buf.old }
         requires zeros { HasZerosFrom R.run old self.old }

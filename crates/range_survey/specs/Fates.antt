@@ -4,7 +4,7 @@ use Rattle.std.specs.List.{Contains}
 use Rattle.std.specs.Str.{bytes_eq}
 use Rattle.caibx_codec.specs.Listing.{Listing, id_of, kind_of, slice_of}
 use Rattle.caibx_codec.specs.Right.{IsRightAt}
-use Rattle.chunk_store.specs.Names.{name_of}
+use Rattle.chunk_store.specs.Digests.{digest_of}
 use Rattle.range_survey.specs.Excuses.{Excuses}
 use Rattle.range_survey.specs.declared.fate.Fate.{Fate}
 use Rattle.range_survey.specs.declared.fate.Fate.TheVariants as fate
@@ -37,7 +37,7 @@ settled fates i = is_settled (fate_at fates i)
 
 -- whether entry i is right in t
 abbrev pub is_right_at : Listing → List ℕ → ℕ → Bool
-is_right_at l t i = bytes_eq (name_of (kind_of l) (slice_of l t i)) (id_of l i)
+is_right_at l t i = bytes_eq (digest_of (kind_of l) (slice_of l t i)) (id_of l i)
 
 -- each settled entry below k is right in t
 abbrev pub SettledRight : Listing → List ℕ → List Fate → ℕ → Type 0

@@ -1,7 +1,7 @@
 //! A hasher that is fed zeros alone. Sizes are in bytes.
 
 ghost use Rattle.std.specs.Prelude.{◌≡◌, ◌≤◌, length, replicate, IfOk};
-ghost use Rattle.chunk_store.specs.Names.{name_of};
+ghost use Rattle.chunk_store.specs.Digests.{digest_of};
 
 use crate::kind_hasher::KindHasher;
 use chunk_store::id::{ChunkId, DigestKind};
@@ -66,10 +66,10 @@ impl FedZeros {
     }
 
     /// The digest of this many zeros, of which `zeros` has enough. Where sizes rise each zero is hashed once.
-    pub(crate) fn name(&mut self, zeros: &[u8], size: usize) -> Result<ChunkId, AllocError>
+    pub(crate) fn digest(&mut self, zeros: &[u8], size: usize) -> Result<ChunkId, AllocError>
         requires zeros { zeros.now ≡ replicate (length zeros.now) 0 }
         requires room { size ≤ length zeros.now }
-        ensures value { IfOk result (λ id. id.0 ≡ name_of self.old.kind (replicate size 0)) }
+        ensures value { IfOk result (λ id. id.0 ≡ digest_of self.old.kind (replicate size 0)) }
         ensures kind { self.new.kind ≡ self.old.kind }
     {
         self.back_to(size);

@@ -1,7 +1,7 @@
 //! A hasher of either kind of digest.
 
 ghost use Rattle.std.specs.Prelude.{[], ◌≡◌, ◌++◌, ℕ, List, IfOk};
-ghost use Rattle.chunk_store.specs.Names.{name_of};
+ghost use Rattle.chunk_store.specs.Digests.{digest_of};
 ghost use Rattle.range_survey.specs.Hashers.{HoldsBytes};
 
 use chunk_store::id::{ChunkId, DigestKind};
@@ -38,7 +38,7 @@ impl KindHasher {
 
     /// The digest of all that it was fed.
     pub(crate) fn digest(&self, kind: DigestKind) -> Result<ChunkId, AllocError>
-        ensures value { (fed : List ℕ) → HoldsBytes kind self.now fed → IfOk result (λ id. id.0 ≡ name_of kind fed) }
+        ensures value { (fed : List ℕ) → HoldsBytes kind self.now fed → IfOk result (λ id. id.0 ≡ digest_of kind fed) }
     {
         match self {
             KindHasher::Sha512T256(hasher) => Ok(ChunkId(hasher.clone()?.finalize())),

@@ -1,12 +1,12 @@
-//! The names of runs of zeros, by their sizes in bytes. Offsets are bytes from 0.
+//! The digests of runs of zeros, by their sizes in bytes. Offsets are bytes from 0.
 
 ghost use Rattle.std.specs.Prelude.{◌≡◌, ◌⊎◌, ℕ, ◌+◌, ◌<◌, ◌≤◌, length, replicate, IfSome, IfOk, IsSome};
 ghost use Rattle.std.specs.Prelude.{OnOk, OnSome, IsTrue};
 ghost use Rattle.std.specs.BTreeSet.{contains, btree_set_len};
 ghost use Rattle.std.specs.Ordering.{nat_cmp};
 ghost use Rattle.caibx_codec.specs.Listing.{count_of, start_of, size_of};
-ghost use Rattle.chunk_store.specs.Names.{name_of};
-ghost use Rattle.range_survey.specs.Zeros.{Covers, AllNamed, IsPastSize, zeros_at};
+ghost use Rattle.chunk_store.specs.Digests.{digest_of};
+ghost use Rattle.range_survey.specs.Zeros.{Covers, AllDigests, IsPastSize, zeros_at};
 
 use crate::fed_zeros::FedZeros;
 use caibx_codec::index::Index;
@@ -18,19 +18,19 @@ use std::marker::Model;
 /// The digests of one kind of runs of zeros, by their sizes. Contracts see it as that kind, and a table of sizes and
 /// digests.
 #[derive(Drop)]
-pub struct ZeroNames {
+pub struct ZeroDigests {
     kind: DigestKind,
-    names: BTreeMap<usize, ChunkId>,
+    digests: BTreeMap<usize, ChunkId>,
 }
 
-impl Model for ZeroNames {
-    ghost use Rattle.range_survey.specs.Zeros.{AllNamed, ZeroTable};
+impl Model for ZeroDigests {
+    ghost use Rattle.range_survey.specs.Zeros.{AllDigests, ZeroTable};
 
     ghost Value = { ZeroTable };
 
-    ghost view = { λ z. record { kind = z.kind; names = z.names.entries } };
+    ghost view = { λ z. record { kind = z.kind; digests = z.digests.entries } };
 
-    ghost invariant = { λ z. AllNamed z.kind z.names.entries };
+    ghost invariant = { λ z. AllDigests z.kind z.digests.entries };
 }
 
 // Adds the size of the entry where that begins at or past `old`.
@@ -71,31 +71,31 @@ fn sizes_past(alloc: Global, index: &Index, old: u64) -> Result<BTreeSet<usize>,
 }
 
 // Adds the digest of this many zeros, of which `zeros` has enough.
-fn add_name(
-    names: &mut BTreeMap<usize, ChunkId>,
+fn add_digest(
+    digests: &mut BTreeMap<usize, ChunkId>,
     fed: &mut FedZeros,
     zeros: &[u8],
     size: usize,
 ) -> Result<(), AllocError>
     requires zeros { zeros.now ≡ replicate (length zeros.now) 0 }
     requires room { size ≤ length zeros.now }
-    ensures known { OnOk result (IsSome (zeros_at names.new.entries size)) }
-    ensures kept { OnOk result ((n : ℕ) → IsSome (zeros_at names.old.entries n) →
-        IsSome (zeros_at names.new.entries n)) }
-    ensures only { OnOk result ((n : ℕ) → IsSome (zeros_at names.new.entries n) →
-        IsSome (zeros_at names.old.entries n) ⊎ (n ≡ size)) }
-    ensures named { OnOk result (AllNamed fed.old.kind names.old.entries →
-        AllNamed fed.old.kind names.new.entries) }
+    ensures known { OnOk result (IsSome (zeros_at digests.new.entries size)) }
+    ensures kept { OnOk result ((n : ℕ) → IsSome (zeros_at digests.old.entries n) →
+        IsSome (zeros_at digests.new.entries n)) }
+    ensures only { OnOk result ((n : ℕ) → IsSome (zeros_at digests.new.entries n) →
+        IsSome (zeros_at digests.old.entries n) ⊎ (n ≡ size)) }
+    ensures named { OnOk result (AllDigests fed.old.kind digests.old.entries →
+        AllDigests fed.old.kind digests.new.entries) }
     ensures kind { fed.new.kind ≡ fed.old.kind }
-    ensures size { OnOk result (length names.new.entries ≤ length names.old.entries + 1) }
+    ensures size { OnOk result (length digests.new.entries ≤ length digests.old.entries + 1) }
 {
-    let name = fed.name(zeros, size)?;
-    names.insert(size, name)?;
+    let digest = fed.digest(zeros, size)?;
+    digests.insert(size, digest)?;
     Ok(())
 }
 
 // The digests of this kind of as many zeros as each of the sizes says, the least first.
-fn names_of(
+fn digests_of(
     alloc: Global,
     kind: DigestKind,
     mut sizes: BTreeSet<usize>,
@@ -105,18 +105,18 @@ fn names_of(
     requires room { (n : ℕ) → IsTrue (contains nat_cmp sizes n) → n ≤ length zeros.now }
     ensures known { IfOk result (λ m. (n : ℕ) → IsTrue (contains nat_cmp sizes n) → IsSome (zeros_at m.entries n)) }
     ensures only { IfOk result (λ m. (n : ℕ) → IsSome (zeros_at m.entries n) → IsTrue (contains nat_cmp sizes n)) }
-    ensures named { IfOk result (λ m. AllNamed kind m.entries) }
+    ensures named { IfOk result (λ m. AllDigests kind m.entries) }
     ensures size { IfOk result (λ m. length m.entries ≤ btree_set_len sizes) }
 {
     let mut fed = FedZeros::new(kind);
-    let mut names = BTreeMap::new(alloc);
+    let mut digests = BTreeMap::new(alloc);
     while let Some(size) = sizes.pop_first() {
-        add_name(&mut names, &mut fed, zeros, size)?;
+        add_digest(&mut digests, &mut fed, zeros, size)?;
     }
-    Ok(names)
+    Ok(digests)
 }
 
-impl ZeroNames {
+impl ZeroDigests {
     /// The digests of the index's kind for the sizes of the entries that begin at or past `old`, so that each zero is
     /// hashed once. `buf` has room for the largest entry, and is left with zeros.
     pub fn of(
@@ -124,28 +124,28 @@ impl ZeroNames {
         index: &Index,
         old: u64,
         buf: &mut [u8],
-    ) -> Result<ZeroNames, AllocError>
+    ) -> Result<ZeroDigests, AllocError>
         requires room { (i : ℕ) → i < count_of index.now → size_of index.now i ≤ length buf.old }
         ensures ok { IfOk result (λ z. Covers z index.now old) }
-        ensures only { IfOk result (λ z. (n : ℕ) → IsSome (zeros_at z.names n) → IsPastSize index.now old n) }
-        ensures size { IfOk result (λ z. length z.names ≤ count_of index.now) }
+        ensures only { IfOk result (λ z. (n : ℕ) → IsSome (zeros_at z.digests n) → IsPastSize index.now old n) }
+        ensures size { IfOk result (λ z. length z.digests ≤ count_of index.now) }
     {
         let kind = index.kind();
         let sizes = sizes_past(alloc, index, old)?;
         buf.fill(0);
-        let names = names_of(alloc, kind, sizes, buf)?;
-        Ok(ZeroNames { kind, names })
+        let digests = digests_of(alloc, kind, sizes, buf)?;
+        Ok(ZeroDigests { kind, digests })
     }
 
     /// The digest of this kind of this many zeros, if the table has it.
-    pub fn name(&self, kind: DigestKind, size: usize) -> Option<ChunkId>
-        ensures value { self.now.kind ≡ kind → result ≡ zeros_at self.now.names size }
-        ensures only { OnSome result ((self.now.kind ≡ kind) × IsSome (zeros_at self.now.names size)) }
-        ensures named { IfSome result (λ id. id.0 ≡ name_of kind (replicate size 0)) }
+    pub fn digest(&self, kind: DigestKind, size: usize) -> Option<ChunkId>
+        ensures value { self.now.kind ≡ kind → result ≡ zeros_at self.now.digests size }
+        ensures only { OnSome result ((self.now.kind ≡ kind) × IsSome (zeros_at self.now.digests size)) }
+        ensures named { IfSome result (λ id. id.0 ≡ digest_of kind (replicate size 0)) }
     {
         match (self.kind, kind) {
             (DigestKind::Sha512T256, DigestKind::Sha512T256)
-            | (DigestKind::Sha256, DigestKind::Sha256) => self.names.get(&size).copied(),
+            | (DigestKind::Sha256, DigestKind::Sha256) => self.digests.get(&size).copied(),
             _ => None,
         }
     }

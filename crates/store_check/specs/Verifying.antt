@@ -6,7 +6,7 @@ use Rattle.std.specs.Option.{option_map}
 use Rattle.std.specs.Str.{bytes_eq}
 use Rattle.caibx_fields.specs.Limits.{size_limit}
 use Rattle.chunk_store.specs.Folders.{chunks}
-use Rattle.chunk_store.specs.Names.{name_of}
+use Rattle.chunk_store.specs.Digests.{digest_of}
 use Rattle.chunk_store.specs.Paths.{path_of}
 use Rattle.chunk_store.specs.declared.id.ChunkId.{ChunkId}
 use Rattle.chunk_store.specs.declared.id.DigestKind.{DigestKind}
@@ -17,10 +17,10 @@ use Rattle.hex.specs.Hex.{encode_lower}
 use Rattle.verify_tool.specs.Pruning.{without}
 use Rattle.store_check.specs.declared.verify.StoreCheck.{StoreCheck}
 
--- whether there are bytes, and they aren't the chunk of this id: too many, or of another name
+-- whether there are bytes, and they aren't the chunk of this id: too many, or of another digest
 abbrev pub is_wrong : DigestKind → List ℕ → Option (List ℕ) → Bool
 is_wrong kind id None = false
-is_wrong kind id (Some b) = nat_lt size_limit (length b) || not (bytes_eq (name_of kind b) id)
+is_wrong kind id (Some b) = nat_lt size_limit (length b) || not (bytes_eq (digest_of kind b) id)
 
 -- whether a chunk file lies under the id, and is damaged
 abbrev pub is_damaged : DigestKind → Map (List ℕ) → List ℕ → Bool

@@ -1,6 +1,6 @@
 use Rattle.std.proofs.Common.{◌≡◌, drop, take}
 use Rattle.std.specs.List.{AllByRecursion}
-use Rattle.chunk_store.specs.Names.{IsId}
+use Rattle.chunk_store.specs.Digests.{IsId}
 use Rattle.caibx_codec.specs.Judge.{entry_fault}
 use Rattle.caibx_codec.specs.Seen.{pairs}
 use Rattle.caibx_codec.proofs.index.fault_in.Given as goal

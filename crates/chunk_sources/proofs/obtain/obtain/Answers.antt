@@ -14,7 +14,7 @@ use Rattle.chunk_sources.specs.Sources.{counts_of, views_of}
 use Rattle.chunk_sources.specs.Wants.{Wanted, sought_chunk}
 use Rattle.chunk_sources.specs.declared.obtain.Sought.{Sought}
 use Rattle.chunk_store.specs.Asks.{Get}
-use Rattle.chunk_store.specs.Names.{name_of}
+use Rattle.chunk_store.specs.Digests.{digest_of}
 use Rattle.chunk_store.specs.declared.id.DigestKind.{DigestKind}
 use Rattle.range_survey.specs.Fates.{settled}
 use Rattle.range_survey.specs.declared.fate.Fate.{Fate}
@@ -70,7 +70,7 @@ returns-then-copy-clause-ok g c = λ told.
 pub returns-clause-ok : goal.returns-clause-ok
 returns-clause-ok g c =
     ok_more c.from_upstream.result (λ named told.
-    sized_as (λ k n. name_of k c.from_upstream.new.chunk ≡ c.args.sought.now.id.0) c.args.chain.now.kind (kind_of g.E.Ledger.run.listing) 0 0 c.requires.kind refl named)
+    sized_as (λ k n. digest_of k c.from_upstream.new.chunk ≡ c.args.sought.now.id.0) c.args.chain.now.kind (kind_of g.E.Ledger.run.listing) 0 0 c.requires.kind refl named)
     c.from_upstream.ensures.ok
 
 -- what is known of what was asked for is known of what is sought

@@ -81,8 +81,8 @@ survey-shards-requires-clause-room g c κs within =
     let length_same : image_length l ≡ image_length r.listing = ap image_length same in
     let old : Held = g.T.View.held c.args.target in
     let is = g.met.T.View.told c.args.target in
-    subst (λ (m : Listing). All (λ b. TakesEach m (vec_len b)) c.zero_names.new.buffers) same
-    (all_alike (λ b. vec_len b) (TakesEach l) c.args.buffers.now c.zero_names.new.buffers c.zero_names.ensures.room c.requires.room)
+    subst (λ (m : Listing). All (λ b. TakesEach m (vec_len b)) c.zero_digests.new.buffers) same
+    (all_alike (λ b. vec_len b) (TakesEach l) c.args.buffers.now c.zero_digests.new.buffers c.zero_digests.ensures.room c.requires.room)
 
 pub new-requires-clause-whole : goal.new-requires-clause-whole
 new-requires-clause-whole g c =

@@ -1,6 +1,6 @@
 use Rattle.std.proofs.Common.{arith, sym, ◌∙◌, ap, subst}
 use Rattle.std.specs.List.{AllByRecursion}
-use Rattle.chunk_store.specs.Names.{IsId}
+use Rattle.chunk_store.specs.Digests.{IsId}
 use Rattle.std.proofs.lemmas.List.{length-map}
 use Rattle.caibx_codec.specs.Judge.{entry_fault}
 use Rattle.caibx_codec.specs.Seen.{pairs}

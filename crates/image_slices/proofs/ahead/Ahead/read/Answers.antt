@@ -1,5 +1,5 @@
 use Rattle.std.proofs.Common.{◌≡◌, ◌+◌, ◌≤◌, IsTrue, rules, arith, length, take, slice_range, refl, ap, sym, ◌∙◌}
-use Rattle.chunk_store.specs.Names.{name_of}
+use Rattle.chunk_store.specs.Digests.{digest_of}
 use Rattle.chunk_store.specs.declared.id.DigestKind.{DigestKind}
 use Rattle.std.proofs.lemmas.List.{with_items_is}
 use Rattle.std.specs.Vec.{with_items}
@@ -36,7 +36,7 @@ returns-clause-right g c =
     let p : Piece = record { entry = c.args.i; at = a.filled } in
     let long : length room ≡ length a.room.items = c.read_named.auto.room ∙ ap length c.deref_mut.ensures.value in
     let fits : a.filled + listed.size ≤ length room = omega (arith, c.requires.fits.bytes, c.entry-listed.ensures.size, long) in
-    let named = ap (λ (k : DigestKind). name_of k (slice_range room a.filled (a.filled + listed.size))) (sym c.kind.ensures) ∙ done.named yes ∙ c.entry-listed.ensures.id in
+    let named = ap (λ (k : DigestKind). digest_of k (slice_range room a.filled (a.filled + listed.size))) (sym c.kind.ensures) ∙ done.named yes ∙ c.entry-listed.ensures.id in
     ahead_adds l (TellsSlice l told) c.args.i (piece_slice l room p) a c.add_piece.new.self
     (adds_slice l a room (done.before ∙ ap (take a.filled) c.deref_mut.ensures.value) c.requires.right.room c.add_piece.new.self p (added.kept ∙ kept) added.pieces c.requires.fits.above
     (omega (arith, added.filled)) (omega (arith, added.filled, fits))

@@ -1,7 +1,7 @@
 use Rattle.std.proofs.Common.{◌≡◌, length, set, vec_len, IfSome, sym, subst, ◌∙◌, arith, rules}
 use Rattle.std.proofs.lemmas.List.{get_or-set_same}
 use Rattle.caibx_codec.specs.Listing.{id_of, kind_of}
-use Rattle.chunk_store.specs.Names.{name_of}
+use Rattle.chunk_store.specs.Digests.{digest_of}
 use Rattle.owned_shards.proofs.Putting.{Found, PutEnds, found, put_ends, stays_whole, where_told}
 use Rattle.owned_shards.proofs.Wholes.{has_it, with_length}
 use Rattle.range_ledger.specs.Runs.{Has, Seen}
@@ -96,7 +96,7 @@ returns g c =
     let left = g.T.Target.left c.self.inside.rest in
     let tells = g.T.View.tells in
     let has : Has r s c.args.entry = has_it r ss is.shards k at.lt s here c.args.entry at.from at.to in
-    let right : IfSome (whole_of left tells ss).held.bytes (λ t. name_of (kind_of r.listing) c.args.chunk.now ≡ id_of r.listing c.args.entry) =
+    let right : IfSome (whole_of left tells ss).held.bytes (λ t. digest_of (kind_of r.listing) c.args.chunk.now ≡ id_of r.listing c.args.entry) =
     where_told left tells ss c.requires.right in
     let ends = subst (λ (w : Whole). PutEnds r.listing c.args.entry c.args.fate w (whole_of left tells (set ss k new)) c.put-put.result) c.self.view_is
     (put_ends r left tells ss is k at.lt s here c.args.entry c.requires.listed has new c.args.fate c.requires.fate c.requires.made c.args.chunk.now c.requires.chunk right c.put-put.result
