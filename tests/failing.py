@@ -104,17 +104,17 @@ def lay_out(folder):
     formats.write_index(path('s.caibx'), formats.index_of_pieces(PIECES))
     put_file(path('s'), b'x' + b''.join(PIECES)[1:])
     os.mkdir(path('to'))
-    formats.write_chunk(path('to'), formats.name_of(PIECES[1]), b'wrong')
-    formats.write_chunk(path('near'), formats.name_of(PIECES[2]), b'wrong')
+    formats.write_chunk(path('to'), formats.digest_of(PIECES[1]), b'wrong')
+    formats.write_chunk(path('near'), formats.digest_of(PIECES[2]), b'wrong')
     for name, held in ((b'one', b'one'), (b'two', b'other'), (b'three', b'')):
-        formats.write_chunk(path('full'), formats.name_of(name), held)
-    formats.write_chunk(path('full'), formats.name_of(PIECES[0]), PIECES[0])
+        formats.write_chunk(path('full'), formats.digest_of(name), held)
+    formats.write_chunk(path('full'), formats.digest_of(PIECES[0]), PIECES[0])
     put_file(path('full/notes.txt'), b'notes')
     put_file(path('full/.tmp-cacnkx'), b'left')
 
 
 def is_right_chunk(path, data):
-    return path.count(os.sep) == 2 and os.path.basename(path) == formats.name_of(data).hex()
+    return path.count(os.sep) == 2 and os.path.basename(path) == formats.digest_of(data).hex()
 
 
 class Scene:
@@ -244,7 +244,7 @@ def fills(folder):
     return lambda path, data: path.split(os.sep)[0] == folder and data is not None and is_right_chunk(path, data)
 
 
-VICTIMS = [os.path.join('full', formats.path_in_store(formats.name_of(name))) for name in (b'one', b'two', b'three')]
+VICTIMS = [os.path.join('full', formats.path_in_store(formats.digest_of(name))) for name in (b'one', b'two', b'three')]
 DAMAGED = VICTIMS[1:]
 
 
@@ -453,7 +453,7 @@ def served(folder, shim, workers, call, at):
     """Whether the call has failed. However that is, the next peer is served, and what stands in the store is right."""
     told = os.path.join(folder, 'told')
     shutil.rmtree(os.path.join(folder, 'st'), ignore_errors=True)
-    formats.write_chunk(os.path.join(folder, 'st'), formats.name_of(ABC), ABC)
+    formats.write_chunk(os.path.join(folder, 'st'), formats.digest_of(ABC), ABC)
     put_file(told, b'')
     error = errno.EAGAIN if call == 'thread' else HARD[call][at % len(HARD[call])]
     environment = shim.environment(call, at, error, False, told)
@@ -465,7 +465,7 @@ def served(folder, shim, workers, call, at):
             got = talk(server)
             expect_equal(got, whole, f'{call} {at}: the next replies')
     for path, data in files_of(os.path.join(folder, 'st')).items():
-        expect(os.path.basename(path) == formats.name_of(data).hex(), f'{call} {at}: the store has {path}')
+        expect(os.path.basename(path) == formats.digest_of(data).hex(), f'{call} {at}: the store has {path}')
     return file_bytes(told)
 
 
@@ -480,7 +480,7 @@ def server_without_memory(cases, shim, workers, turn):
 def served_without_memory(folder, shim, workers, at):
     told, port = os.path.join(folder, 'told'), servers.free_port()
     shutil.rmtree(os.path.join(folder, 'st'), ignore_errors=True)
-    formats.write_chunk(os.path.join(folder, 'st'), formats.name_of(ABC), ABC)
+    formats.write_chunk(os.path.join(folder, 'st'), formats.digest_of(ABC), ABC)
     put_file(told, b'')
     server = ChunkServer(folder, port=port)
     words = ['chunk-server', '-w', '-n', workers, '-s', 'st', '-l', f'127.0.0.1:{port}']
@@ -498,7 +498,7 @@ def served_without_memory(folder, shim, workers, at):
         expect_equal(ended.status, 1, f'{at}: the status')
         expect(ended.err in (b'', NO_MEMORY), f'{at}: the error line is {ended.err}')
     for path, data in files_of(os.path.join(folder, 'st')).items():
-        name = formats.name_of(data).hex()
+        name = formats.digest_of(data).hex()
         expect(os.path.basename(path) == name, f'{at}: the store has {path}')
     return file_bytes(told)
 
@@ -561,7 +561,7 @@ def is_stopped(cases):
                 expect_equal(len(server.asked), 1, 'how often the server was asked')
     for workers in ('1', '8'):
         with cases.case(f'chunk-server -n {workers} is stopped and goes on while a request comes slowly') as folder:
-            formats.write_chunk(os.path.join(folder, 'st'), formats.name_of(ABC), ABC)
+            formats.write_chunk(os.path.join(folder, 'st'), formats.digest_of(ABC), ABC)
             with ChunkServer(folder, '-w', '-n', workers) as server:
                 for sent, wanted in ASKED:
                     expect_equal(said_while_stopped(server, sent), wanted.bytes, 'the reply')
