@@ -50,8 +50,8 @@ pub record JustOpened {L D K : Type 0} (look : LookWords L) (state : D → DialS
   pub cache_known : IsSome (d.folder_counts cache)
   pub cache_fresh : s.faults ≡ 0
 
--- indexes were had in order, as far as they were wanted: where all are files no server was asked for one, and else each
--- server on one connection at most
+-- indexes were obtained in order, as far as they were wanted: where all are files no server was asked for one, and else
+-- each server on one connection at most
 pub record AreHad (indexes : List (List ℕ)) (w v : Storage) : Type 0 where
   pub reads : Reads w.disk v.disk
   pub dials : Dials w.dial v.dial

@@ -167,9 +167,9 @@ where
     answer
 }
 
-/// Puts the chunks that the indexes list into CACHE, index by index, up to the first chunk that isn't had. What CACHE
-/// holds already is left where it is right; what it lacks comes from the stores, which are asked in order. Each worker
-/// has stores of its own; where they can't be opened again there are fewer.
+/// Puts the chunks that the indexes list into CACHE, index by index, up to the first chunk that isn't obtained. What
+/// CACHE holds already is left where it is right; what it lacks comes from the stores, which are asked in order. Each
+/// worker has stores of its own; where they can't be opened again there are fewer.
 pub fn fill_cache<R: Threads + Sync, F: ImageFiles, D: Dial + Send>(
     rt: &R,
     alloc: Global,

@@ -279,7 +279,7 @@ fn store_in<'g>(rt: &impl Abort, groups: &'g Groups, group: usize, store: usize)
     group.as_slice().get(store).expect(rt, "a store")
 }
 
-// There are so many stores in each group.
+// There are this many stores in each group.
 fn have_sizes(rt: &impl Abort, groups: &Groups, sizes: &[usize]) {
     same(rt, groups.as_slice().len(), sizes.len());
     for (group, size) in groups.as_slice().iter().zip(sizes) {
