@@ -10,7 +10,7 @@ use Rattle.command_indexes.specs.Places.{are_files}
 use Rattle.command_indexes.specs.Spelled.{AsksInTurn}
 use Rattle.command_steps.specs.AnyStores.{source_faults}
 use Rattle.command_steps.specs.Cache.{with_cache}
-use Rattle.cache_command.specs.Chains.{CanGiveChain, chain_groups}
+use Rattle.command_groups.specs.Chains.{CanGiveChain, chain_groups}
 use Rattle.command_steps.specs.Dials.{Dials}
 use Rattle.command_steps.specs.Sources.{Storage, location_files}
 use Rattle.command_steps.specs.declared.any_store.AnyStore.{AnyStore}
