@@ -39,7 +39,7 @@ def whole_image(folder, size, runs):
 
 
 def one_byte(folder, runs):
-    name = formats.name_of(CHUNK)
+    name = formats.digest_of(CHUNK)
     data = formats.long_index(formats.ITEM_LIMIT, name)
     formats.write_chunk(os.path.join(folder, 'one'), name, CHUNK)
     with open(os.path.join(folder, 'long.caibx'), 'wb') as file:

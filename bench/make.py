@@ -105,7 +105,7 @@ def check(folder, store, size):
     with open(os.path.join(folder, IMAGE), 'rb') as image:
         for start, end, name in index.slices():
             piece = image.read(end - start)
-            if formats.name_of(piece) != name or formats.answer_of(store, name, len(piece)) != piece:
+            if formats.digest_of(piece) != name or formats.answer_of(store, name, len(piece)) != piece:
                 sys.exit(f'the chunk from {start} to {end} is wrong in {store}')
     return index
 

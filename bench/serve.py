@@ -34,7 +34,7 @@ def lay_out(folder, count):
     """The names of the store's chunks."""
     names = []
     for piece in pieces(count * CHUNK, 3):
-        names.append(formats.name_of(piece))
+        names.append(formats.digest_of(piece))
         formats.write_chunk(os.path.join(folder, 'st'), names[-1], piece)
     # nginx's worker may be another user.
     os.chmod(folder, 0o755)
@@ -106,7 +106,7 @@ def seconds_for_many(port, names, clients, checks):
 
 
 def check(name, place, room):
-    if formats.name_of(room[place * CHUNK:(place + 1) * CHUNK]) != name:
+    if formats.digest_of(room[place * CHUNK:(place + 1) * CHUNK]) != name:
         sys.exit(f'{name.hex()} has other bytes')
 
 

@@ -29,7 +29,7 @@ def lay_out(folder, count, size, seed):
     os.makedirs(folder)
     for _ in range(count):
         piece = chance.randbytes(size)
-        formats.write_chunk(folder, formats.name_of(piece), piece)
+        formats.write_chunk(folder, formats.digest_of(piece), piece)
     return count * size
 
 

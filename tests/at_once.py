@@ -158,7 +158,7 @@ def expect_right(store, allowed):
     chunks = {path: data for path, data in files.items() if re.fullmatch('[0-9a-f]{4}/[0-9a-f]{64}', path)}
     expect(chunks, 'the store has no chunk')
     for path, data in chunks.items():
-        expect_equal(formats.path_in_store(formats.name_of(data)), path, 'the path of a chunk')
+        expect_equal(formats.path_in_store(formats.digest_of(data)), path, 'the path of a chunk')
         expect(data in allowed, f'{path} was put whole by nobody')
     return files
 
@@ -208,7 +208,7 @@ def killed(cases, folder):
                 for run in runs:
                     expect(isinstance(run.exception(60), (OSError, AssertionError)), 'a peer was served to its end')
             files = expect_right(store, {ABC, *both})
-            expect_equal(file_bytes(formats.chunk_path(store, formats.name_of(ABC))), ABC, 'the old chunk')
+            expect_equal(file_bytes(formats.chunk_path(store, formats.digest_of(ABC))), ABC, 'the old chunk')
             # A temporary file that the kill has left goes by `prune`, and all chunks stay.
             put_file(os.path.join(store, '5304', formats.TEMPORARY + 'x'), b'left')
             formats.write_index(os.path.join(folder, 'all.caibx'), formats.index_of_pieces([ABC, *both]))

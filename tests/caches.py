@@ -34,7 +34,7 @@ class Image:
         for piece in self.pieces:
             formats.write_chunk(self.path('all'), self.index.add(piece), piece)
         formats.write_index(self.path('new.caibx'), self.index)
-        self.chunks = {formats.name_of(piece): piece for piece in self.pieces}
+        self.chunks = {formats.digest_of(piece): piece for piece in self.pieces}
         # A range of zeros is right in an output that isn't there: no source is asked for it.
         self.needed = {name for name, piece in self.chunks.items() if any(piece)}
         for name in ('none', 'near'):
@@ -88,7 +88,7 @@ def given_and_added(cases):
         image = Image(folder)
         other = b'a chunk of another image'
         more = dict(STRANGERS)
-        more[formats.path_in_store(formats.name_of(other))] = other
+        more[formats.path_in_store(formats.digest_of(other))] = other
         for path, data in more.items():
             put_file(os.path.join(image.path('near'), path), data)
         expect_ended(image.run(image.words()))
@@ -261,11 +261,11 @@ def filled(cases):
             image.expect_kept(image.chunks)
         with cases.case(f'cache ends at a chunk that isn\'t there, by {workers} of -n') as folder:
             image = Image(folder)
-            lost = formats.name_of(image.pieces[30])
+            lost = formats.digest_of(image.pieces[30])
             os.remove(formats.chunk_path(image.path('all'), lost))
             ended = image.run(image.fill('-n', workers))
             expect_ended(ended, f'chunk {lost.hex()} of entry 30 is missing')
-            image.expect_kept({formats.name_of(piece) for piece in image.pieces[:30]})
+            image.expect_kept({formats.digest_of(piece) for piece in image.pieces[:30]})
         with cases.case(f'cache asks a server once for each chunk that it lacks, by {workers} of -n') as folder:
             image = Image(folder)
             half = set(sorted(image.chunks)[::2])
@@ -284,10 +284,10 @@ def filled(cases):
             if piece != more[2]:
                 formats.write_chunk(image.path('all'), name, piece)
         formats.write_index(image.path('other.caibx'), other)
-        lost = formats.name_of(more[2])
+        lost = formats.digest_of(more[2])
         ended = image.run(image.fill(indexes=('new.caibx', 'other.caibx')))
         expect_ended(ended, f'chunk {lost.hex()} of entry 2 is missing')
-        image.chunks[formats.name_of(more[0])] = more[0]
+        image.chunks[formats.digest_of(more[0])] = more[0]
         image.expect_kept(image.chunks)
     with cases.case('cache with an index that isn\'t there') as folder:
         image = Image(folder)

@@ -162,7 +162,7 @@ def asked_for(cases):
     image = [*pieces, pieces[1], pieces[0], pieces[8]]
     with cases.case('which chunks a server is asked for') as folder:
         for piece in pieces:
-            formats.write_chunk(os.path.join(folder, 'st'), formats.name_of(piece), piece)
+            formats.write_chunk(os.path.join(folder, 'st'), formats.digest_of(piece), piece)
         formats.write_index(os.path.join(folder, 'i.caibx'), formats.index_of_pieces(image))
         whole = b''.join(image)
         asked = [*range(9), 0]
@@ -172,7 +172,7 @@ def asked_for(cases):
                 words = ['cat', '-s', server.url('/'), *range_words(offset, length), 'i.caibx']
                 stop = len(whole) if length is None else offset + length
                 expect_put(program.run(words, folder), whole[offset:stop], what=f'{offset}, {length}')
-                wanted = [('GET', '/' + formats.path_in_store(formats.name_of(pieces[n]))) for n in numbers]
+                wanted = [('GET', '/' + formats.path_in_store(formats.digest_of(pieces[n]))) for n in numbers]
                 expect_equal(server.asked, wanted, f'what was asked for {offset}, {length}')
 
 

@@ -67,7 +67,7 @@ def wrong_images(cases):
         with cases.case(f'entry {entry} is another one, and all after it') as folder:
             image = listed[:start] + bytes(byte ^ 255 for byte in listed[start:])
             lay_out_both(folder, image, listed)
-            name = formats.name_of(image[start:end]).hex()
+            name = formats.digest_of(image[start:end]).hex()
             chops(folder, index, entry, f'entry {entry} has the name {name}')
     for what, image in {'short': listed[:-1], 'long': listed + b'\0', 'empty': b''}.items():
         with cases.case(f'an image that is too {what}') as folder:

@@ -114,7 +114,7 @@ def a_large_image(cases):
             ended, _, peak = program.run_measured(words, folder)
             expect_equal(ended.status, 0, 'the status')
             spelled = file_bytes(os.path.join(folder, INDEX))
-            name = formats.name_of(bytes(greatest))
+            name = formats.digest_of(bytes(greatest))
             wanted = [(end, name) for end in range(greatest, 4 * GIB + 1, greatest)]
             expect_equal(formats.read_index(spelled).entries, wanted, 'the entries')
             # A bare Python starts the program, and its memory is counted where the program's own is less. Each worker

@@ -35,7 +35,7 @@ def chunks_of(image):
 def figures_of(number, size):
     image = image_of(number, size)
     chunks, seed = chunks_of(image), set(chunks_of(seed_of(image)))
-    right = {chunk for chunk in chunks if formats.name_of(bytes(chunk[1])) == chunk[0]}
+    right = {chunk for chunk in chunks if formats.digest_of(bytes(chunk[1])) == chunk[0]}
     missing = set(chunks) - right
     kept = sum(chunk in right for chunk in chunks)
     seeded, fetched = len(missing & seed), len(missing - seed)

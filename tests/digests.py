@@ -23,7 +23,7 @@ from replies import request
 
 FLAGS = {'sha512-256': formats.WRITTEN_FLAGS, 'sha256': formats.SHA256_FLAGS}
 OTHER = {'sha512-256': 'sha256', 'sha256': 'sha512-256'}
-NAME_OF = {kind: formats.namer(flags) for kind, flags in FLAGS.items()}
+DIGEST_OF = {kind: formats.namer(flags) for kind, flags in FLAGS.items()}
 # Messages of FIPS 180-4's examples, and their digests as published with it.
 TWO_BLOCKS = (b'abcdefghbcdefghicdefghijdefghijkefghijklfghijklmghijklmn'
               b'hijklmnoijklmnopjklmnopqklmnopqrlmnopqrsmnopqrstnopqrstu')
@@ -67,7 +67,7 @@ class Scene:
 
     def files(self, *kinds):
         """The files of a store with the image's chunks by these digests."""
-        return {formats.path_in_store(NAME_OF[kind](piece)): piece for kind in kinds for piece in self.pieces}
+        return {formats.path_in_store(DIGEST_OF[kind](piece)): piece for kind in kinds for piece in self.pieces}
 
     def extracts(self, kind, *words, store=None):
         ended = self.run('extract', '-s', store or kind, *words, f'{kind}.caibx', 'out')
@@ -84,7 +84,7 @@ class Scene:
             formats.write_chunks(self.path(name), self.index[kind], self.bytes)
 
 
-def digest_of(folder, kind, data):
+def id_made(folder, kind, data):
     """The digits of the only chunk of an image of these bytes, which are its digest."""
     with open(os.path.join(folder, 'img'), 'wb') as file:
         file.write(data)
@@ -97,17 +97,17 @@ def vectors(cases):
     for kind, message, digits in PUBLISHED:
         with cases.case(f'the published {kind} digest of {len(message)} bytes') as folder:
             os.mkdir(os.path.join(folder, 'st'))
-            expect_equal(digest_of(folder, kind, message), digits + '\n', 'the id')
+            expect_equal(id_made(folder, kind, message), digits + '\n', 'the id')
     for kind in FLAGS:
         with cases.case(f'{kind} digests of 0 to 300 bytes and of 2^20, beside hashlib and openssl') as folder:
             os.mkdir(os.path.join(folder, 'st'))
             chance = random.Random(kind)
             for length in LENGTHS:
                 data = chance.randbytes(length)
-                wanted = NAME_OF[kind](data).hex() + '\n' if data else ''
-                expect_equal(digest_of(folder, kind, data), wanted, f'the id of {length} bytes')
+                wanted = DIGEST_OF[kind](data).hex() + '\n' if data else ''
+                expect_equal(id_made(folder, kind, data), wanted, f'the id of {length} bytes')
                 if length % 50 == 1 or length == 1 << 20:
-                    expect_equal(openssl(kind, data), NAME_OF[kind](data), 'the digest by openssl')
+                    expect_equal(openssl(kind, data), DIGEST_OF[kind](data), 'the digest by openssl')
 
 
 def openssl(kind, data):
@@ -162,7 +162,7 @@ def reading(cases):
             expect_ended(scene.run('extract', '-s', OTHER[kind], f'{kind}.caibx', 'out'), scene.missing(kind))
         with cases.case(f'bytes under an id of the other digest are damaged for an index of {kind}') as folder:
             scene = Scene(folder, 1)
-            name = NAME_OF[OTHER[kind]](b'abc')
+            name = DIGEST_OF[OTHER[kind]](b'abc')
             formats.write_index(scene.path('a.caibx'), formats.Index([(3, name)], FLAGS[kind]))
             formats.write_chunk(scene.path('st'), name, b'abc')
             text = f'chunk {name.hex()} of entry 0 is damaged in store 0'
@@ -170,7 +170,7 @@ def reading(cases):
             expect_ended(scene.run('cache', '-s', 'st', '-c', 'none', 'a.caibx'), text, what='cache')
             scene.write('abc', b'abc')
             expect_ended(scene.run('verify-index', 'a.caibx', 'abc'),
-                         f'entry 0 has the name {NAME_OF[kind](b"abc").hex()}')
+                         f'entry 0 has the name {DIGEST_OF[kind](b"abc").hex()}')
 
 
 def seeds(cases):
@@ -209,7 +209,7 @@ def caches(cases):
             expect_files(scene.path('near'), scene.files(*FLAGS), 'after cache')
             for kind in FLAGS:
                 # What a chunk of the other digest would be if it stood under this id.
-                name = NAME_OF[kind](scene.pieces[5])
+                name = DIGEST_OF[kind](scene.pieces[5])
                 formats.write_chunk(scene.path('near'), name, scene.pieces[6])
                 expect_ended(scene.run(*words, *indexes), what='cache over a damaged chunk')
                 expect_files(scene.path('near'), scene.files(*FLAGS), 'after the chunk was put right')
@@ -253,7 +253,7 @@ def served(cases):
     for workers in ('1', '4'):
         for kind in FLAGS:
             with cases.case(f'chunk-server --digest {kind} -n {workers}') as folder:
-                own, strange = (NAME_OF[one](b'abc') for one in (kind, OTHER[kind]))
+                own, strange = (DIGEST_OF[one](b'abc') for one in (kind, OTHER[kind]))
                 os.mkdir(os.path.join(folder, 'st'))
                 put = {name: request('PUT', target(name), 'Content-Length: 3', body=b'abc') for name in (own, strange)}
                 get = {name: request('GET', target(name)) for name in (own, strange)}

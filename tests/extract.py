@@ -37,7 +37,7 @@ def lay_out(folder, index=ABC_INDEX, chunks=(b'abc',), old=None):
     if chunks is not None:
         os.makedirs(os.path.join(folder, STORE), exist_ok=True)
         for chunk in chunks:
-            put_chunk(folder, formats.name_of(chunk), chunk)
+            put_chunk(folder, formats.digest_of(chunk), chunk)
     if old is not None:
         put_file(os.path.join(folder, OUT), old)
 
@@ -47,7 +47,7 @@ def put_chunk(folder, name, data):
 
 
 def chunk_path(folder, data):
-    return formats.chunk_path(os.path.join(folder, STORE), formats.name_of(data))
+    return formats.chunk_path(os.path.join(folder, STORE), formats.digest_of(data))
 
 
 def listing(pieces):
@@ -96,7 +96,7 @@ def gives(folder, wanted, text='', **more):
 
 
 def missing(entry, data):
-    return f'chunk {formats.name_of(data).hex()} of entry {entry} is missing'
+    return f'chunk {formats.digest_of(data).hex()} of entry {entry} is missing'
 
 
 # Cases
@@ -124,7 +124,7 @@ def worked_examples(cases):
 def bad_indexes(cases):
     word = struct.Struct('<Q').pack
     most = formats.SIZE_LIMIT
-    abc = formats.name_of(b'abc')
+    abc = formats.digest_of(b'abc')
     bad = {
         'an empty file': (b'', 'truncated at byte 0'),
         'a text': (b'This is no index file.\n' * 9, 'no index head'),
@@ -188,13 +188,13 @@ def measured(folder, limit, text=''):
 
 def many_entries(cases):
     most = formats.ITEM_LIMIT
-    zero = formats.name_of(b'\0')
+    zero = formats.digest_of(b'\0')
     with cases.case('2^22 entries that the old output holds') as folder:
         lay_out(folder, formats.long_index(most, zero), [])
         measured(folder, INDEX_MEMORY)
         expect_equal(file_bytes(os.path.join(folder, OUT)), bytes(most), 'the output')
     with cases.case('2^22 entries and the first is missing') as folder:
-        lay_out(folder, formats.long_index(most, formats.name_of(b'x')), [])
+        lay_out(folder, formats.long_index(most, formats.digest_of(b'x')), [])
         measured(folder, INDEX_MEMORY, missing(0, b'x'))
         expect_equal(file_bytes(os.path.join(folder, OUT)), bytes(most), 'the output')
     with cases.case('2^22 + 1 entries') as folder:
@@ -220,7 +220,7 @@ def huge_files(cases):
     with cases.case('a chunk file of 16 GiB') as folder:
         lay_out(folder, ABC_INDEX, [b'abc'])
         sparse(chunk_path(folder, b'abc'), 16 * GIB)
-        measured(folder, PLAIN_MEMORY, formats.refusal(0, formats.name_of(b'abc'), 'damaged', 0))
+        measured(folder, PLAIN_MEMORY, formats.refusal(0, formats.digest_of(b'abc'), 'damaged', 0))
         expect_equal(file_bytes(os.path.join(folder, OUT)), bytes(3), 'the output')
     with cases.case('an old output of 4 GiB') as folder:
         lay_out(folder, ABC_INDEX, [b'abc'], b'')
@@ -239,9 +239,9 @@ def image_over_4_gib(cases):
     """65 entries of 64 MiB and one of 7 bytes, whose place needs more than 32 bits."""
     block, last = formats.SIZE_LIMIT, b'the end'
     with cases.case('an image of more than 4 GiB') as folder:
-        zeros = formats.name_of(bytes(block))
+        zeros = formats.digest_of(bytes(block))
         entries = [(block * (number + 1), zeros) for number in range(65)]
-        entries.append((block * 65 + len(last), formats.name_of(last)))
+        entries.append((block * 65 + len(last), formats.digest_of(last)))
         lay_out(folder, items(*entries, sizes=(1, 1, block)), [last])
         measured(folder, PLAIN_MEMORY + WORKERS * WORKER_MEMORY + (WORKERS + 1) * block)
         expect_sparse(os.path.join(folder, OUT), block * 65, last)
@@ -388,13 +388,13 @@ def chunks(cases):
             with cases.case(f'a chunk is {how}, the old output is {state}') as folder:
                 lay_out(folder, listing(pieces), [pieces[0], pieces[2]], old)
                 if chunk is not None:
-                    put_chunk(folder, formats.name_of(pieces[1]), chunk)
+                    put_chunk(folder, formats.digest_of(pieces[1]), chunk)
                 as_read(folder)
     odd_chunks(cases, pieces)
 
 
 def odd_chunks(cases, pieces):
-    name = formats.name_of(pieces[1])
+    name = formats.digest_of(pieces[1])
     wanted = pieces[0] + bytes(len(pieces[1])) + pieces[2]
     is_missing = missing(1, pieces[1])
 
@@ -429,11 +429,11 @@ def odd_chunks(cases, pieces):
             gives(folder, wanted, is_missing)
     for what, size in (('more', 13), ('less', 11)):
         with cases.case(f'an index gives a chunk {what} bytes than it has') as folder:
-            first, third = (formats.name_of(pieces[at]) for at in (0, 2))
+            first, third = (formats.digest_of(pieces[at]) for at in (0, 2))
             lay_out(folder, items((5, first), (5 + size, name), (10 + size, third)), pieces)
             expect_equal(as_read(folder), formats.refusal(1, name, 'damaged', 0), 'the text of the independent reading')
     with cases.case('one name with two sizes') as folder:
-        abc = formats.name_of(b'abc')
+        abc = formats.digest_of(b'abc')
         lay_out(folder, items((3, abc), (5, abc)), [b'abc'])
         expect_equal(as_read(folder), formats.refusal(1, abc, 'damaged', 0), 'the text of the independent reading')
     with cases.case('the same chunk many times over') as folder:
@@ -525,9 +525,9 @@ def random_layout(chance, folder):
     spoiled = chance.choice([0, 0, 0.05, 0.2, 0.5])
     for piece in pieces:
         if chance.random() >= spoiled:
-            put_chunk(folder, formats.name_of(piece), piece)
+            put_chunk(folder, formats.digest_of(piece), piece)
         elif chance.random() < 0.5:
-            put_chunk(folder, formats.name_of(piece), damaged(chance, piece))
+            put_chunk(folder, formats.digest_of(piece), damaged(chance, piece))
 
 
 def damaged(chance, data):

@@ -104,17 +104,17 @@ def lay_out(folder):
     formats.write_index(path('s.caibx'), formats.index_of_pieces(PIECES))
     put_file(path('s'), b'x' + b''.join(PIECES)[1:])
     os.mkdir(path('to'))
-    formats.write_chunk(path('to'), formats.name_of(PIECES[1]), b'wrong')
-    formats.write_chunk(path('near'), formats.name_of(PIECES[2]), b'wrong')
+    formats.write_chunk(path('to'), formats.digest_of(PIECES[1]), b'wrong')
+    formats.write_chunk(path('near'), formats.digest_of(PIECES[2]), b'wrong')
     for name, held in ((b'one', b'one'), (b'two', b'other'), (b'three', b'')):
-        formats.write_chunk(path('full'), formats.name_of(name), held)
-    formats.write_chunk(path('full'), formats.name_of(PIECES[0]), PIECES[0])
+        formats.write_chunk(path('full'), formats.digest_of(name), held)
+    formats.write_chunk(path('full'), formats.digest_of(PIECES[0]), PIECES[0])
     put_file(path('full/notes.txt'), b'notes')
     put_file(path('full/.tmp-cacnkx'), b'left')
 
 
 def is_right_chunk(path, data):
-    return path.count(os.sep) == 2 and os.path.basename(path) == formats.name_of(data).hex()
+    return path.count(os.sep) == 2 and os.path.basename(path) == formats.digest_of(data).hex()
 
 
 class Scene:
@@ -244,7 +244,7 @@ def fills(folder):
     return lambda path, data: path.split(os.sep)[0] == folder and data is not None and is_right_chunk(path, data)
 
 
-VICTIMS = [os.path.join('full', formats.path_in_store(formats.name_of(name))) for name in (b'one', b'two', b'three')]
+VICTIMS = [os.path.join('full', formats.path_in_store(formats.digest_of(name))) for name in (b'one', b'two', b'three')]
 DAMAGED = VICTIMS[1:]
 
 
@@ -457,7 +457,7 @@ class Service:
 
 
 def is_chunk(path, data):
-    return os.path.basename(path) == formats.name_of(data).hex()
+    return os.path.basename(path) == formats.digest_of(data).hex()
 
 
 NEW_INDEX = formats.spell_index(formats.index_of_pieces([b'new', ABC]))
@@ -468,7 +468,7 @@ def is_index(path, data):
 
 
 CHUNKS = Service(
-    ChunkServer, (formats.path_in_store(formats.name_of(ABC)), ABC),
+    ChunkServer, (formats.path_in_store(formats.digest_of(ABC)), ABC),
     [(put(path_of(b'new'), b'new'), Wanted(200)), (request('GET', path_of(ABC)), Wanted(200, ABC)),
      (request('HEAD', path_of(ABC)), Wanted(200, length=3)), (request('GET', path_of(b'none')), Wanted(404))],
     is_chunk)
@@ -599,7 +599,7 @@ def is_stopped(cases):
                 expect_equal(len(server.asked), 1, 'how often the server was asked')
     for workers in ('1', '8'):
         with cases.case(f'chunk-server -n {workers} is stopped and goes on while a request comes slowly') as folder:
-            formats.write_chunk(os.path.join(folder, 'st'), formats.name_of(ABC), ABC)
+            formats.write_chunk(os.path.join(folder, 'st'), formats.digest_of(ABC), ABC)
             with ChunkServer(folder, '-w', '-n', workers) as server:
                 for sent, wanted in CHUNKS.asked:
                     expect_equal(said_while_stopped(server, sent), wanted.bytes, 'the reply')

@@ -56,7 +56,7 @@ def _digest_by_openssl(data):
     return subprocess.run(words, input=data, stdout=subprocess.PIPE, check=True).stdout
 
 
-name_of = _find_digest()
+digest_of = _find_digest()
 """The 32 bytes of SHA-512/256 of a byte string."""
 
 
@@ -67,7 +67,7 @@ def sha256_of(data):
 
 def namer(flags):
     """What names the chunks of an index with these flags."""
-    return name_of if flags & SHA512_256_FLAG else sha256_of
+    return digest_of if flags & SHA512_256_FLAG else sha256_of
 
 
 # Index files
@@ -360,7 +360,7 @@ def write_chunks(store, index, data):
         write_chunk(store, name, data[start:end])
 
 
-def answer_of(store, name, size, name_of=name_of):
+def answer_of(store, name, size, digest_of=digest_of):
     """What a store says of a chunk: its bytes, or 'missing', 'damaged' or 'failed'."""
     try:
         with open(chunk_path(store, name), 'rb') as file:
@@ -369,12 +369,12 @@ def answer_of(store, name, size, name_of=name_of):
         return 'missing'
     except OSError:
         return 'failed'
-    return data if len(data) == size and name_of(data) == name else 'damaged'
+    return data if len(data) == size and digest_of(data) == name else 'damaged'
 
 
-def obtained(stores, name, size, name_of=name_of):
+def obtained(stores, name, size, digest_of=digest_of):
     """The chunk from the first store that gives it; or why none does, and the store that is named."""
-    answers = [answer_of(store, name, size, name_of) for store in stores]
+    answers = [answer_of(store, name, size, digest_of) for store in stores]
     for answer in answers:
         if isinstance(answer, bytes):
             return answer

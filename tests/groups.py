@@ -770,7 +770,7 @@ def words(cases):
 
 def examples(cases, shim):
     """The index of "abc", and the folders `x` and `y`, which hold the chunk, lack it or can't be read."""
-    abc = formats.name_of(b'abc')
+    abc = formats.digest_of(b'abc')
 
     def lay(folder, **kinds):
         put_file(os.path.join(folder, 'a.caibx'), formats.ABC_INDEX)
@@ -810,7 +810,7 @@ def fails_first(folder, given, shim, lay):
         ended = program.run(given, place, shim.environment('open', at, errno.EIO, False, told))
         paths = (file_bytes(told) or b'').decode().splitlines()
         expect(paths, 'no call about the chunk has failed')
-        if formats.path_in_store(formats.name_of(b'abc')) in paths[0]:
+        if formats.path_in_store(formats.digest_of(b'abc')) in paths[0]:
             expect_ended(ended)
             expect_equal(file_bytes(os.path.join(place, 'o')), b'abc', 'o')
             return

@@ -126,7 +126,7 @@ class Reader:
                     expect_equal(self.said(port, 'GET', piece), wanted, 'what is got')
                 self.fill(port)
         for piece in (b'new', largest):
-            os.remove(formats.chunk_path(os.path.join(self.folder, 'chunks'), formats.name_of(piece)))
+            os.remove(formats.chunk_path(os.path.join(self.folder, 'chunks'), formats.digest_of(piece)))
 
     def trusted(self):
         context = ssl.create_default_context(cafile=os.path.join(self.folder, 'cert.pem'))

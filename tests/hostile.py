@@ -163,7 +163,7 @@ def extract_it(chance, folder, data, pieces):
     if old is not None:
         put_file(out, old)
     for piece in pieces:
-        formats.write_chunk(store, formats.name_of(piece), piece if chance.random() < .9 else changed(chance, piece))
+        formats.write_chunk(store, formats.digest_of(piece), piece if chance.random() < .9 else changed(chance, piece))
     text, wanted = formats.extracted(data, 'a.caibx', [store], old)
     index, _ = formats.read_text(data, 'a.caibx')
     largest = max((end - start for start, end, _ in index.slices()), default=0) if index else 0
@@ -292,9 +292,9 @@ class Scripted:
 def text_of_gets(given, piece=PIECE):
     """The text where a store that is asked by GET gives this."""
     if isinstance(given, bytes):
-        return '' if given == piece else formats.refusal(0, formats.name_of(piece), 'damaged', 0)
+        return '' if given == piece else formats.refusal(0, formats.digest_of(piece), 'damaged', 0)
     why = {'failed': 'failed', 'missing': 'missing', 'longer': 'damaged'}[given]
-    return formats.refusal(0, formats.name_of(piece), why, 0)
+    return formats.refusal(0, formats.digest_of(piece), why, 0)
 
 
 def replies(rounds):
@@ -335,9 +335,9 @@ def answered(command, folder, url, given):
         near = os.path.join(folder, 'near')
         os.makedirs(near, exist_ok=True)
         with contextlib.suppress(FileNotFoundError):
-            os.remove(formats.chunk_path(near, formats.name_of(PIECE)))
+            os.remove(formats.chunk_path(near, formats.digest_of(PIECE)))
         expect_ended(run_small(['cache', '-n', '1', '-s', url, '-c', 'near', 'a.caibx'], folder), got)
-        held = {formats.path_in_store(formats.name_of(PIECE)): PIECE} if got == '' else {}
+        held = {formats.path_in_store(formats.digest_of(PIECE)): PIECE} if got == '' else {}
         expect_equal(files_of(near), held, 'the cache')
     else:
         is_put = given['GET'] != PIECE and given['GET'] != 'failed'
@@ -504,7 +504,7 @@ def endless_replies(cases):
                 with servers.Server(lambda peer, *_: endless(peer, front, piece)) as server:
                     operands = ['a.caibx', 'o'] if command[0] == 'extract' else ['a.caibx']
                     ended, _, peak = program.run_measured([*command, '-s', server.url(), *operands], folder)
-                expect_ended(ended, formats.refusal(0, formats.name_of(PIECE), why, 0))
+                expect_ended(ended, formats.refusal(0, formats.digest_of(PIECE), why, 0))
                 expect(peak < PEAK, f'the peak is {peak} KiB')
 
 

@@ -248,7 +248,7 @@ def written(cases):
         with open(image.path('image'), 'r+b') as file:
             file.seek(at)
             file.write(b'\0\0\0\0')
-        other = formats.name_of(bytes(4) + image.pieces[5][4:]).hex()
+        other = formats.digest_of(bytes(4) + image.pieces[5][4:]).hex()
         with servers.store(image.path('none')) as server:
             ended = image.run('chop', '-s', server.url(), 'new.caibx', 'image')
             expect_ended(ended, f'entry 5 has the name {other}')

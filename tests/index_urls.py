@@ -57,7 +57,7 @@ def run_all(image, index, stores):
     expect_ended(image.run('chop', '-s', 'none', index, 'image'))
     image.expect_store('none')
     other = b'no index lists this'
-    formats.write_chunk(image.path('none'), formats.name_of(other), other)
+    formats.write_chunk(image.path('none'), formats.digest_of(other), other)
     expect_ended(image.run('prune', '-s', 'none', '-y', index, 'new.caibx'))
     image.expect_store('none')
 

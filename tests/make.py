@@ -63,7 +63,7 @@ def expect_chunks(store):
     """Each file of the store but temporaries has the digest that its name says."""
     for path, held in files_of(store).items():
         if not os.path.basename(path).startswith(formats.TEMPORARY):
-            expect_equal(formats.name_of(held).hex(), os.path.basename(path), 'the name of a chunk that was left')
+            expect_equal(formats.digest_of(held).hex(), os.path.basename(path), 'the name of a chunk that was left')
 
 
 def written(before, folder, store, index, image):
@@ -108,7 +108,7 @@ def expect_right_names(folder, before, after):
     for path in set(after) - set(before):
         full = os.path.join(folder, path)
         if os.path.isfile(full):
-            expect_equal(os.path.basename(path), formats.name_of(file_bytes(full)).hex(), f'the name of {path!r}')
+            expect_equal(os.path.basename(path), formats.digest_of(file_bytes(full)).hex(), f'the name of {path!r}')
 
 
 def extracts(folder, image, words=(STORE, INDEX, OUT)):

@@ -25,8 +25,8 @@ CHUNK = 'st' + PATH
 DIGITS = os.path.basename(PATH)
 TEMPORARY = os.path.join(os.path.dirname(CHUNK), formats.TEMPORARY + DIGITS)
 FAILED = 'store 0 failed'
-MISSING = formats.refusal(0, formats.name_of(ABC), 'missing')
-DAMAGED = formats.refusal(0, formats.name_of(ABC), 'damaged', 0)
+MISSING = formats.refusal(0, formats.digest_of(ABC), 'missing')
+DAMAGED = formats.refusal(0, formats.digest_of(ABC), 'damaged', 0)
 
 
 class Place:
@@ -180,7 +180,7 @@ def removed(cases):
             expect_equal(place.bytes('precious'), b'precious', 'what a link led to')
     with cases.case('a cache takes the place of what is no file, but of a folder') as folder:
         place = Place(folder)
-        formats.write_chunk(place.path('all'), formats.name_of(ABC), ABC)
+        formats.write_chunk(place.path('all'), formats.digest_of(ABC), ABC)
         for what, (make, *_) in AT_A_CHUNK.items():
             if not what.startswith('a folder'):
                 make(place.path(CHUNK))

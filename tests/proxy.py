@@ -29,7 +29,7 @@ from replies import (ABC, GET_ABC, GIVES_ABC, NOTHING, PATH, Wanted, path_of, pu
 from servers import ChunkServer
 
 CLIENTS = 32
-NAME = formats.name_of(ABC)
+NAME = formats.digest_of(ABC)
 STRANGERS = {'notes.txt': b'notes', os.path.join('0000', 'other.cacnk'): b'compressed'}
 SECONDS = 20
 
@@ -48,7 +48,7 @@ def lay_out(folder, *, st=ABC, ca=None):
 
 def expect_cache(folder, *pieces, more=()):
     """The cache holds just these chunks, and other files."""
-    wanted = {formats.path_in_store(formats.name_of(piece)): piece for piece in pieces}
+    wanted = {formats.path_in_store(formats.digest_of(piece)): piece for piece in pieces}
     expect_files(os.path.join(folder, 'ca'), {**wanted, **dict(more)}, 'in the cache')
 
 
@@ -140,7 +140,7 @@ def largest(cases):
         with cases.case(f'a chunk of {size} bytes') as folder:
             lay_out(folder, st=None)
             piece = bytes(size)
-            formats.write_chunk(os.path.join(folder, 'st'), formats.name_of(piece), piece)
+            formats.write_chunk(os.path.join(folder, 'st'), formats.digest_of(piece), piece)
             with proxy(folder) as server:
                 got = said_to(server, request('GET', path_of(piece)))
                 expect(got == (Wanted(200, piece) if status == 200 else NOTHING).bytes, f'it says {got[:80]}')

@@ -50,7 +50,7 @@ def verdict(index, image):
     if len(image) != index.length():
         return f'the file has {len(image)} bytes'
     for entry, (start, end, name) in enumerate(index.slices()):
-        got = formats.name_of(image[start:end])
+        got = formats.digest_of(image[start:end])
         if got != name:
             return f'entry {entry} has the name {got.hex()}'
     return ''

@@ -26,7 +26,7 @@ PHRASES = {200: 'OK', 400: 'Bad Request', 404: 'Not Found', 405: 'Method Not All
 # What is said on a connection
 
 def path_of(piece):
-    return formats.chunk_path('/', formats.name_of(piece))
+    return formats.chunk_path('/', formats.digest_of(piece))
 
 
 def request(method, target, *lines, body=b'', version='HTTP/1.1'):
@@ -93,7 +93,7 @@ def lay_out(folder, *pieces):
     """The store `st` with chunks, a stranger and a temporary file."""
     store = os.path.join(folder, 'st')
     for piece in (ABC, *pieces):
-        formats.write_chunk(store, formats.name_of(piece), piece)
+        formats.write_chunk(store, formats.digest_of(piece), piece)
     put_file(os.path.join(store, 'notes.txt'), b'notes')
     put_file(os.path.join(store, '5304', '.tmp-cacnkx'), b'ab')
     put_file(os.path.join(folder, 'secret'), SECRET)
@@ -240,17 +240,17 @@ def chunks(cases, folder):
                 gives(piece, 200)
         for piece, (what, change) in zip(spoiled, DAMAGES.items()):
             with cases.case(f'a chunk file that is damaged: {what}'):
-                formats.write_chunk(store, formats.name_of(piece), change(piece))
+                formats.write_chunk(store, formats.digest_of(piece), change(piece))
                 gives(piece, 404)
-                formats.write_chunk(store, formats.name_of(piece), piece)
+                formats.write_chunk(store, formats.digest_of(piece), piece)
                 gives(piece, 200)
         with cases.case('a chunk of 64 MiB, and one of a byte more'):
             for piece, wanted in ((bytes(64 * MIB), 200), (bytes(64 * MIB + 1), 404)):
-                formats.write_chunk(store, formats.name_of(piece), b'')
-                os.truncate(formats.chunk_path(store, formats.name_of(piece)), len(piece))
+                formats.write_chunk(store, formats.digest_of(piece), b'')
+                os.truncate(formats.chunk_path(store, formats.digest_of(piece)), len(piece))
                 gives(piece, wanted)
         with cases.case('a compressed chunk alone'):
-            put_file(formats.chunk_path(store, formats.name_of(b'one')) + '.cacnk', b'one')
+            put_file(formats.chunk_path(store, formats.digest_of(b'one')) + '.cacnk', b'one')
             gives(b'one', 404)
         with cases.case('a chunk whose file has a name in upper case'):
             put_file(store + path_of(b'two').upper(), b'two')
@@ -330,7 +330,7 @@ def puts(cases, folder):
                 expect_store(store, held)
         for number, (what, change) in enumerate(DAMAGES.items()):
             piece = b'damaged %d' % number
-            formats.write_chunk(store, formats.name_of(piece), change(piece))
+            formats.write_chunk(store, formats.digest_of(piece), change(piece))
             answers(f'in the place of a damaged chunk: {what}', put(path_of(piece), piece), taken, piece)
         os.makedirs(store + path_of(b'eight'))
         answers('where a folder stands', put(path_of(b'eight'), b'eight'), Wanted(500))
@@ -389,7 +389,7 @@ def pieces(cases, folder):
                        (put(PATH, b'abd'), Wanted(400)), (request('GET', '/'), NOTHING)] * 200
             got = said_to(server, b''.join(sent for sent, _ in several))
             expect_equal(got, b''.join(wanted.bytes for _, wanted in several), 'the replies')
-        formats.write_chunk(store, formats.name_of(large), large)
+        formats.write_chunk(store, formats.digest_of(large), large)
         with cases.case('a peer that takes 8 MiB little by little'):
             with server.connect() as peer:
                 peer.sendall(request('GET', path_of(large), 'Connection: close'))
@@ -550,7 +550,7 @@ class Chunks:
     @staticmethod
     def is_right(path, body):
         """Whether the body may be put there."""
-        return formats.name_of(body).hex() == path[6:]
+        return formats.digest_of(body).hex() == path[6:]
 
 
 class Indexes:

@@ -29,7 +29,7 @@ class Image:
         os.mkdir(self.path('none'))
         self.index = self.write_index('new.caibx', self.pieces)
         for piece in self.pieces:
-            formats.write_chunk(self.path('all'), formats.name_of(piece), piece)
+            formats.write_chunk(self.path('all'), formats.digest_of(piece), piece)
 
     def path(self, name):
         return os.path.join(self.folder, name)

@@ -406,7 +406,7 @@ SLOWLY_HELD = {'takes nothing of a reply': lambda peer: peer.sendall(request('GE
 def answered_after(folder, hold):
     """After how many seconds a peer is answered that came after one which holds up the server, and by what."""
     store = lay_out(folder)
-    name = formats.name_of(bytes(64 * MIB))
+    name = formats.digest_of(bytes(64 * MIB))
     formats.write_chunk(store, name, b'')
     os.truncate(formats.chunk_path(store, name), 64 * MIB)
     with ChunkServer(folder, '-w', '-n', '1') as server, server.connect() as first:

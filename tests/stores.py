@@ -25,7 +25,7 @@ PIECES = [b'abc', b'defgh', b'abc', b'ijklmnop']
 
 def put_chunk(folder, store, named, held):
     """Puts bytes under the name of others; None puts a folder in the chunk's place."""
-    path = formats.chunk_path(os.path.join(folder, store), formats.name_of(named))
+    path = formats.chunk_path(os.path.join(folder, store), formats.digest_of(named))
     if held is None:
         os.makedirs(path)
     else:
@@ -63,7 +63,7 @@ def extracts(folder, words, old=None, text=None):
 # Cases
 
 RIGHT = [(piece, piece) for piece in PIECES]
-ONE = formats.name_of(b'defgh').hex()
+ONE = formats.digest_of(b'defgh').hex()
 
 
 def worked(cases):
@@ -147,7 +147,7 @@ def vanishing(cases):
             raise Skip('the program was done before its store vanished')
         out = file_bytes(os.path.join(folder, OUT))
         entry = next(at for at, piece in enumerate(pieces) if out[at * 65536:(at + 1) * 65536] != piece)
-        expect_ended(ended, formats.refusal(entry, formats.name_of(pieces[entry]), 'missing'))
+        expect_ended(ended, formats.refusal(entry, formats.digest_of(pieces[entry]), 'missing'))
         # Workers go side by side, so that entries after the named one may be right.
         for at, piece in enumerate(pieces[entry:], entry):
             expect(out[at * 65536:(at + 1) * 65536] in (piece, bytes(65536)), f'entry {at} is neither right nor zeros')

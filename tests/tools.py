@@ -32,7 +32,7 @@ class Store:
         chance = random.Random(5)
         self.folder = folder
         self.pieces = [chance.randbytes(chance.randint(1, 30_000)) for _ in range(pieces)] + [b'']
-        self.chunks = {formats.name_of(piece): piece for piece in self.pieces}
+        self.chunks = {formats.digest_of(piece): piece for piece in self.pieces}
         self.rest = {**STRANGERS, **TEMPORARIES}
         for name, piece in self.chunks.items():
             formats.write_chunk(self.path('st'), name, piece)
@@ -61,7 +61,7 @@ class Store:
             formats.write_chunk(self.path('st'), name, change(self.chunks[name]))
 
     def kept_by(self, *indexes):
-        return {formats.name_of(piece): piece for index in indexes for piece in self.listed[index]}
+        return {formats.digest_of(piece): piece for index in indexes for piece in self.listed[index]}
 
 
 def text_of(word, names):
@@ -92,10 +92,10 @@ def verified(cases):
     with cases.case('a chunk file of more than 64 MiB is damaged, one of 64 MiB isn\'t') as folder:
         os.mkdir(os.path.join(folder, 'st'))
         piece = bytes(formats.SIZE_LIMIT)
-        formats.write_chunk(os.path.join(folder, 'st'), formats.name_of(piece), piece)
+        formats.write_chunk(os.path.join(folder, 'st'), formats.digest_of(piece), piece)
         expect_ended(program.run(['verify', '-s', 'st'], folder))
         longer = piece + b'\0'
-        name = formats.name_of(longer)
+        name = formats.digest_of(longer)
         formats.write_chunk(os.path.join(folder, 'st'), name, longer)
         ended = program.run(['verify', '-s', 'st'], folder)
         expect_ended(ended, 'damaged chunks left: 1', out=text_of('damaged', [name]))

@@ -91,7 +91,7 @@ class Versions:
         """The names of the chunks of which no entry is right in the output, and which no seed lists."""
         length = self.index.length()
         base = (b'' if output is None else self.bytes_of(output))[:length].ljust(length, b'\0')
-        right = {name for start, end, name in self.index.slices() if formats.name_of(base[start:end]) == name}
+        right = {name for start, end, name in self.index.slices() if formats.digest_of(base[start:end]) == name}
         for seed in seeds:
             right |= self.index_of(seed).names()
         return self.index.names() - right

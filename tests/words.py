@@ -46,11 +46,11 @@ COMMANDS = {
     'info': ({'store': (0, 16), **E}, (1, 1)),
     'verify': ({'store': (1, 1), 'repair': (0, 1), **N, **D}, (0, 0)),
     'prune': ({'store': (1, 1), 'yes': (1, 1)}, (1, 64)),
-    'chunk-server': ({'store': (1, 1), 'listen': (1, 1), 'writable': (0, 1), **N, **D}, (0, 0)),
+    'chunk-server': ({'store': (1, 16), **E, 'cache': (0, 1), 'listen': (1, 1), 'writable': (0, 1), **N, **D}, (0, 0)),
     'index-server': ({'store': (1, 1), 'listen': (1, 1), 'writable': (0, 1)}, (0, 0)),
     'demo': ({**N, **D}, (2, 2)),
 }
-FOLDERS_ALONE = ('verify', 'prune', 'chunk-server', 'index-server')
+FOLDERS_ALONE = ('verify', 'prune', 'index-server')
 
 # How many of a command's operands are an INDEX, from the first on.
 INDEXES = {'make': 1, 'extract': 1, 'cat': 1, 'verify-index': 1, 'chop': 1, 'cache': 64, 'list-chunks': 1, 'info': 1,
@@ -112,7 +112,7 @@ def why_not_locations(command, before, word):
 
 
 def why_not_value(said, option, word):
-    """Why the word can't be the option's value, by the first reason of the table."""
+    """Why the word can't be the option's value, by the first reason of the document."""
     kind = VALUES[option]
     if kind == 'location':
         return why_not_locations(said.command, len(said.stores()), word)
@@ -166,7 +166,7 @@ def option_of(command, word):
 
 
 class Faulty(Exception):
-    """Words that aren't taken: the place of the first that isn't, and why."""
+    """Words that aren't taken: the place at which that shows, and why."""
 
 
 class Said:
@@ -175,6 +175,7 @@ class Said:
     def __init__(self, command):
         self.command = command
         self.given = {option: [] for option in SPELLED}
+        self.places = []  # of each option, in order, with the option
         self.operands = []
 
     def stores(self):
@@ -197,6 +198,7 @@ def read(words):
                 raise Faulty(place, 'UnknownOption')
             if len(said.given[option]) == takes[option][1]:
                 raise Faulty(place, 'TooMany')
+            said.places.append((place, option))
             value = None
             if option in VALUES:
                 place, value = next(rest, (None, None))
@@ -211,12 +213,26 @@ def read(words):
             if why:
                 raise Faulty(place, why)
             said.operands.append(word)
+    if said.command == 'chunk-server' and not said.given['cache']:
+        needs_one_folder(said)
     for missing, why in ((('store', 'cache', 'listen'), 'MissingOption'), (('yes',), 'NeedsYes')):
         if any(len(said.given[option]) < takes.get(option, (0, 0))[0] for option in missing):
             raise Faulty(len(words), why)
     if len(said.operands) < least:
         raise Faulty(len(words), 'Operands')
+    if said.command == 'chunk-server' and said.given['cache'] and said.given['writable']:
+        raise Faulty(len(words), 'ReadOnly')
     return said
+
+
+def needs_one_folder(said):
+    """Faulty where the words of a server without a cache name more than one folder."""
+    stores = [place for place, option in said.places if option == 'store']
+    surplus = stores[1:] + [place for place, option in said.places if option == 'retries']
+    if surplus:
+        raise Faulty(min(surplus), 'TooMany')
+    if stores and [location(part) for part in said.stores()] != ['folder']:
+        raise Faulty(stores[0] + 1, 'NeedsFolder')
 
 
 def why_not_sizes(value):
@@ -287,6 +303,10 @@ GOOD = {'location': 'st', 'sizes': '16:64:256', 'workers': '4', 'folder': 'near'
         'address': 'localhost:8080', 'digest': 'sha256', 'bytes': '7', 'retries': '3'}
 
 
+# What `chunk-server` has where it takes several stores.
+BESIDE_CACHE = ['-c', 'near']
+
+
 def fewest(command, but=()):
     """The fewest words of a command that are taken, but for some of its options; its operands come last."""
     takes, (least, _) = COMMANDS[command]
@@ -306,6 +326,8 @@ def tables(cases):
             for option, spellings in SPELLED.items():
                 value = [GOOD[VALUES[option]]] if option in VALUES else []
                 front, operands = fewest(command, but=[option])
+                if command == 'chunk-server' and option in ('store', 'retries'):
+                    front += BESIDE_CACHE
                 least_times, times = takes.get(option, (0, 0))
                 for spelling in spellings:
                     if option_of(command, spelling) not in (None, option):
@@ -393,9 +415,10 @@ def groups(cases):
         if 'store' in takes:
             with cases.case(f'{command}: which groups of locations are taken') as folder:
                 front, operands = fewest(command, but=['store'])
-                for word in GROUPS:
-                    agrees([*front, '-s', word, *operands], folder)
-                    agrees([*front, '-s', 'a|b|c|d|e|f|g', '-s', word, *operands], folder)
+                for front in [front] + [front + BESIDE_CACHE] * (command == 'chunk-server'):
+                    for word in GROUPS:
+                        agrees([*front, '-s', word, *operands], folder)
+                        agrees([*front, '-s', 'a|b|c|d|e|f|g', '-s', word, *operands], folder)
 
 
 def at_random(cases):
@@ -407,7 +430,8 @@ def at_random(cases):
                 told[agrees(random_words(chance), folder)] += 1
     with cases.case('the random words had each fault, and some were taken'):
         for why in ('taken', 'UnknownOption', 'TooMany', 'NoValue', 'Empty', 'BadNumber', 'BadSizes', 'BadLocation',
-                    'NeedsFolder', 'BadSeed', 'BadListen', 'BadDigest', 'MissingOption', 'NeedsYes', 'Operands'):
+                    'NeedsFolder', 'BadSeed', 'BadListen', 'BadDigest', 'MissingOption', 'NeedsYes', 'Operands',
+                    'ReadOnly'):
             expect(told[why] > 4, f'{why} came {told[why]} times')
 
 

@@ -71,7 +71,7 @@ class Scene:
         os.mkdir(store)
         self.words += ['-s', name]
         for piece in self.pieces:
-            path = formats.chunk_path(store, formats.name_of(piece))
+            path = formats.chunk_path(store, formats.digest_of(piece))
             kind = self.chance.randint(0, 9)
             if kind < 6:
                 put_file(path, piece)
@@ -163,7 +163,7 @@ def small_images(cases):
             expect_equal(file_bytes(path_of(folder, OUT)), b'', 'the output')
         with cases.case(f'an image of one entry, {count} workers') as folder:
             put_file(path_of(folder, INDEX), formats.ABC_INDEX)
-            formats.write_chunk(path_of(folder, 'st'), formats.name_of(b'abc'), b'abc')
+            formats.write_chunk(path_of(folder, 'st'), formats.digest_of(b'abc'), b'abc')
             expect_ended(extract(folder, count, '-s', 'st'))
             expect_equal(file_bytes(path_of(folder, OUT)), b'abc', 'the output')
 
@@ -180,7 +180,7 @@ def neighbours(cases):
                 with Chunks(pieces) as server:
                     expect_ended(extract(folder, count, '-k', '-s', server.url()))
                 expect_equal(file_bytes(path_of(folder, OUT)), image, 'the output')
-                wanted = [f'/{formats.path_in_store(formats.name_of(b"one"))}']
+                wanted = [f'/{formats.path_in_store(formats.digest_of(b"one"))}']
                 expect_equal(server.asked, wanted, 'what the server was asked for')
 
 
@@ -195,7 +195,7 @@ class Chunks(socketserver.ThreadingMixIn, http.server.HTTPServer):
     request_queue_size = 64
 
     def __init__(self, chunks, before=lambda path: None):
-        self.paths = {f'/{formats.path_in_store(formats.name_of(chunk))}': chunk for chunk in chunks}
+        self.paths = {f'/{formats.path_in_store(formats.digest_of(chunk))}': chunk for chunk in chunks}
         self.before = before
         self.asked = []
         self.here = self.most = 0
@@ -256,7 +256,7 @@ def lay_out_store(folder, pieces):
     """An index of these pieces, and a folder that has them all."""
     lay_out(folder, pieces)
     for piece in pieces:
-        formats.write_chunk(path_of(folder, 'st'), formats.name_of(piece), piece)
+        formats.write_chunk(path_of(folder, 'st'), formats.digest_of(piece), piece)
 
 
 class Gate:
@@ -304,10 +304,10 @@ def asks_are_counted(cases):
             lay_out(folder, pieces + pieces[:10] + [bytes(70)])
             with Chunks(pieces[1:]) as server:
                 ended = extract(folder, count, '-k', '-s', server.url())
-            name = formats.name_of(pieces[0])
+            name = formats.digest_of(pieces[0])
             expect_ended(ended, f'chunk {name.hex()} of entry 0 is missing')
-            paths = [f'/{formats.path_in_store(formats.name_of(piece))}' for piece in pieces]
-            zeros = f'/{formats.path_in_store(formats.name_of(bytes(70)))}'
+            paths = [f'/{formats.path_in_store(formats.digest_of(piece))}' for piece in pieces]
+            zeros = f'/{formats.path_in_store(formats.digest_of(bytes(70)))}'
             expect_equal(sorted(path for path in server.asked if path != zeros), sorted(paths + paths[:1]),
                          'what the server was asked for')
             expect(zeros not in server.asked, 'zeros were asked for')
@@ -321,7 +321,7 @@ def asks_are_counted(cases):
                 expect_ended(extract(folder, count, '-k', '-s', server.url(), '--seed', 'seed.caibx'))
             needed = pieces[15:20] + pieces[25:]
             expect_equal(sorted(server.asked),
-                         sorted(f'/{formats.path_in_store(formats.name_of(piece))}' for piece in needed),
+                         sorted(f'/{formats.path_in_store(formats.digest_of(piece))}' for piece in needed),
                          'what the server was asked for')
 
 
@@ -329,7 +329,7 @@ def failures_of_one_worker(cases):
     with cases.case('a server fails once, in one worker') as folder:
         pieces = image_of(20)
         lay_out(folder, pieces)
-        broken = f'/{formats.path_in_store(formats.name_of(pieces[7]))}'
+        broken = f'/{formats.path_in_store(formats.digest_of(pieces[7]))}'
         failed = []
 
         def once(path):
@@ -347,7 +347,7 @@ def failures_of_one_worker(cases):
             pieces = image_of(20)
             lay_out(folder, pieces)
             # No two chunks are alike, so each entry is a want, and each fourth one is dealt to this worker.
-            broken = {f'/{formats.path_in_store(formats.name_of(piece))}' for piece in pieces[worker::4]}
+            broken = {f'/{formats.path_in_store(formats.digest_of(piece))}' for piece in pieces[worker::4]}
             left = set(broken)
 
             def at_first(path):
@@ -363,7 +363,7 @@ def failures_of_one_worker(cases):
     with cases.case('a server always fails for one chunk') as folder:
         pieces = image_of(20)
         lay_out(folder, pieces)
-        broken = f'/{formats.path_in_store(formats.name_of(pieces[7]))}'
+        broken = f'/{formats.path_in_store(formats.digest_of(pieces[7]))}'
         with Chunks(pieces, lambda path: 500 if path == broken else None) as server:
             ended = extract(folder, 4, '-k', '-s', server.url())
         expect_ended(ended, 'store 0 failed')

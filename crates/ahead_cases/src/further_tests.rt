@@ -85,7 +85,7 @@ fn asks_of(chains: &[Chain<DirStore<GatedFolder>>]) -> u64 {
     asks
 }
 
-// Fills a cache with so many further workers from stores that lack this chunk, and compares how it ended and how many
+// Fills a cache with this many further workers from stores that lack this chunk, and compares how it ended and how many
 // chunks the cache has then. Answers how often the stores were asked.
 fn fills<R: Abort + Threads + Sync>(
     rt: &R,

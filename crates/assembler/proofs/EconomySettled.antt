@@ -73,7 +73,7 @@ module _ {S : Type 0} (source : Fate) (n : ℕ) (m0 m1 : List Fate) (old new : C
       counts_source (as_upstream source) n (map as_upstream m0) (map as_upstream m1)
       (subst (λ f. TalliedAs f n (map as_upstream m0) (map as_upstream m1)) (got ∙ origin_upstream source) (tallied_upstream origin n m0 m1 counts))
 
--- the chunk wasn't had
+-- the chunk wasn't obtained
 same_err : {A : Type 0} (r q : Refused) → (◌≡◌ {A = Result A Refused} (Err r) (Err q)) → r ≡ q
 same_err r q same = cc
 

@@ -1,4 +1,4 @@
--- The source of a want: what it depends on, and what was had from it.
+-- The source of a want: what it depends on, and what was obtained from it.
 use Rattle.std.proofs.Common.{◌≡◌, ◌⊎◌, ◌++◌, ℕ, List, Bool, true, false, if◌then◌else◌, Option, refl, sym, ap, ◌∙◌, inl, inr}
 use Rattle.std.proofs.lemmas.Bool.{true≢false}
 use Rattle.std.specs.List.{list_any}
@@ -85,7 +85,7 @@ module _ (t : Task) (views : List (Option Held)) (maps : List (Map (List ℕ))) 
     | inr store ↦ inr (inr (inr ((stores_decide chunk.kind chunk.id chunk.size maps).1 store)))
   ]
 
-  -- what was had came from one
+  -- what was obtained came from one
   pub had_source : (cached : List (Map (List ℕ))) (m : List Fate) → Had m chunk views (cached ++ maps) → Source cached (settled m) ≡ fate.Open → ⊥
   had_source cached m had none =
       four_any (list_any (settled m) (of_want t.plan w)) Seeded (Give cached) (Give maps) (found cached m had) none

@@ -104,7 +104,7 @@ module _ (t : Task) (wants : AreWants t.listing t.plan.wants t.plan.want_of) whe
   pub here : (i : ℕ) → i < count_of t.listing → IsAmong (of_want t.plan (want_at t.plan i)) i
   here i inside = let size : length t.plan.want_of ≡ count_of t.listing = wants.size in among t.plan (want_at t.plan i) i (omega (arith, inside)) refl
 
-  -- alike entries can be had alike
+  -- alike entries can be obtained alike
   obtainable_as : (base : List ℕ) (views : List (Option Held)) (maps : List (Map (List ℕ))) (i j : ℕ) → i < count_of t.listing → j < count_of t.listing → want_at t.plan j ≡ want_at t.plan i
       → IsObtainable t base views maps i → IsObtainable t base views maps j
   obtainable_as base views maps i j one other same (inl (k, listed, alike, right)) =
@@ -119,7 +119,7 @@ module _ (t : Task) (wants : AreWants t.listing t.plan.wants t.plan.want_of) whe
 
   module _ (Such : ℕ → Type 0) (m : List Fate) (base : List ℕ)
       (filled : (j : ℕ) → j < count_of t.listing → settled m j ≡ true → IsRightAt base t.listing j ⊎ Such j) where
-    -- where a settled entry was had, it can be had
+    -- where a settled entry was obtained, it can be obtained
     obtainable : (views : List (Option Held)) (maps : List (Map (List ℕ))) → ((j : ℕ) → j < count_of t.listing → Such j → IsObtainable t base views maps j)
         → (i : ℕ) → i < count_of t.listing → HadAt t m views maps i → IsObtainable t base views maps i
     obtainable views maps can i inside (inl (j, other, is)) =
@@ -347,7 +347,7 @@ module _ {S V : Type 0} (store : StoreWords S) (view : ViewWords V) (t : Task) (
       abbrev Can : List ℕ → ℕ → Type 0
       Can y i = IsObtainable t (over_base y) views (cached ++ maps) i
 
-      -- an entry that was made right before can be had
+      -- an entry that was made right before can be obtained
       abbrev pub SuchCan : List ℕ → Type 0
       SuchCan y = (i : ℕ) → i < count_of t.listing → Such i → Can y i
 
@@ -359,7 +359,7 @@ module _ {S V : Type 0} (store : StoreWords S) (view : ViewWords V) (t : Task) (
             had_from t done.wants store view Each old (from a) done.since.seeds.held done.since.stocked cached later.0 maps given later.1 told a.fates (want_at t.plan i)
             (done.had (telling_on view.tells views (views_of view a.kit.seeds.items) done.since.seeds.held telling) later.0 maps later.1 (done.since.stores.held ∙ told) i inside is)
 
-        -- what is settled can be had
+        -- what is settled can be obtained
         can : (y : List ℕ) → Found y → SuchCan y → (i : ℕ) → i < count_of t.listing → settled b.fates i ≡ true → Can y i
         can y found such i inside is =
             obtainable t done.wants Such a.fates (over_base y) found.1.filled views (cached ++ maps) such i inside (had_at i inside is)
@@ -384,7 +384,7 @@ module _ {S V : Type 0} (store : StoreWords S) (view : ViewWords V) (t : Task) (
             let part = quiet_part (at old.chain.stores) (at is.before) (at is.after) (at b.kit.chain.stores) (is.until.never_fall s) (is.since.never_fall s) (nothing.stores s) in
             quiet_never (at is.before) (at is.after) part (is.refused.cause s failed)
 
-        -- what was lost can't be had
+        -- what was lost can't be obtained
         never : (y : List ℕ) → Found y → (lost : Lost) → Loses store view t a b lost → Can y lost.entry → Tells lost.refused → ⊥
         never y found lost is (inl alike) tells = quiet_never old.faults b.faults nothing.target (copies_lost y found lost is alike)
         never y found lost is (inr (inl seeds)) tells =
@@ -404,7 +404,7 @@ module _ {S V : Type 0} (store : StoreWords S) (view : ViewWords V) (t : Task) (
               (subst (λ q. SomeGives (kind_of t.listing) q (size_of t.listing lost.entry) maps) (sym is.id_is) stores)
         ]
 
-        -- what is settled can be had
+        -- what is settled can be obtained
         had : (y : List ℕ) → Found y → SuchCan y → (i : ℕ) → i < count_of t.listing → settled b.fates i ≡ true → Can y i
         had = can nothing.telling nothing.told_cache nothing.told
 
@@ -433,7 +433,7 @@ module _ {S V : Type 0} (store : StoreWords S) (view : ViewWords V) (t : Task) (
           abbrev StandsAfter : List ℕ → List ℕ → Type 0
           StandsAfter y z = (i : ℕ) → i < count_of t.listing → (Can y i → IsRightAt z t.listing i) × ((Can y i → ⊥) → slice_of t.listing z i ≡ slice_of t.listing (over_base y) i)
 
-          -- an entry that can't be had was never written
+          -- an entry that can't be obtained was never written
           untouched : (y z : List ℕ) → SuchCan y → Filled y z → (i : ℕ) → i < count_of t.listing → (Can y i → ⊥) → slice_of t.listing z i ≡ slice_of t.listing (over_base y) i
           untouched y z has s i inside hasnt = elim (cases_Bool (settled b.fates i)) [
             | inl is ↦ absurd (hasnt (had y (s.0, s.1) has i inside is))

@@ -62,7 +62,7 @@ module _ (t : Task) (wants : AreWants t.listing t.plan.wants t.plan.want_of) whe
     pub had_all_none : (a : Stage S V) → HadAll store view t a a.fates
     had_all_none a = λ told cached maps has are i inside is. had_none a.fates (views_of view a.kit.seeds.items) (cached ++ maps) i inside is
 
-    -- what was had from the cache as it was then was had from it as it was at first, or from a store
+    -- what was obtained from the cache as it was then was obtained from it as it was at first, or from a store
     pub had_from : (A : ℕ → Type 0) (old new : Sources S V) → views_of view new.seeds ≡ views_of view old.seeds
         → Stocked (TakesWants store t.listing t.plan A old.chain.stores) old.cache new.cache → (was now maps : List (Map (List ℕ))) → given_maps old.cache ≡ Some was
         → given_maps new.cache ≡ Some now → map store.holds old.chain.stores ≡ map Some maps → (m : List Fate) (w : ℕ)

@@ -35,8 +35,8 @@ use Rattle.store_chain.specs.Chains.{KeepsStores}
 abbrev pub RightAlike : Listing → List ℕ → ℕ → Type 0
 RightAlike l base i = (j : ℕ) × (j < count_of l) × AreAlike l j i × IsRightAt base l j
 
--- entry i can be had: an alike one is right in the base, or a seed gives its chunk, or the cache or a store does, which
--- hold these maps
+-- entry i can be obtained: an alike one is right in the base, or a seed gives its chunk, or the cache or a store does,
+-- which hold these maps
 abbrev pub IsObtainable : Task → List ℕ → List (Option Held) → List (Map (List ℕ)) → ℕ → Type 0
 IsObtainable t base views maps i = RightAlike t.listing base i
     ⊎ (SeedsGive views (places_at t.places (want_at t.plan i)) (id_of t.listing i)
@@ -77,12 +77,12 @@ Assembles l Unused old new (Err faults.TargetFault) o t =
     (Unused × ((t ≡ o) ⊎ (t ≡ resized o (image_length l)))) ⊎ KeepsTorn l old new (resized o (image_length l)) t
 Assembles l Unused old new (Err faults.Memory) o t = (t ≡ o) ⊎ KeepsBase l old new (resized o (image_length l)) t
 
--- all entries below k can be had, and k can't
+-- all entries below k can be obtained, and k can't
 abbrev pub IsLeast : (ℕ → Type 0) → ℕ → Type 0
 IsLeast P k = ((i : ℕ) → i < k → P i) × (P k → ⊥)
 
--- how it ends where nothing fails: all entries can be had, or the least that can't be had is named. Want of memory is
--- free
+-- how it ends where nothing fails: all entries can be obtained, or the least that can't be obtained is named. Want of
+-- memory is free
 abbrev pub Verdict : Listing → (ℕ → Type 0) → Result Report ExtractFault → Type 0
 Verdict l P (Ok r) = (i : ℕ) → i < count_of l → P i
 Verdict l P (Err (faults.Missing k id)) = IsLeast P k
@@ -91,7 +91,8 @@ Verdict l P (Err (faults.StoreFault s)) = ⊥
 Verdict l P (Err faults.TargetFault) = ⊥
 Verdict l P (Err faults.Memory) = Unit {0}
 
--- what stands afterwards where nothing fails: each entry that can be had is right, and each other has the base's bytes
+-- what stands afterwards where nothing fails: each entry that can be obtained is right, and each other has the base's
+-- bytes
 abbrev pub After : Listing → (ℕ → Type 0) → List ℕ → List ℕ → Result Report ExtractFault → Type 0
 After l P base t (Err faults.Memory) = Unit {0}
 After l P base t r = (i : ℕ) → i < count_of l → (P i → IsRightAt t l i)

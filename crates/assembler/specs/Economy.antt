@@ -20,7 +20,7 @@ pub record Tallied (seeded cached fetched n : ℕ) (m0 m1 : List Fate) : Type 0 
   pub from_cache : tally fate.Cached m1 n ≡ tally fate.Cached m0 n + cached
   pub from_stores : tally fate.Fetched m1 n ≡ tally fate.Fetched m0 n + fetched
 
--- so many as there are wants with such a source, where the want w has the source `source w`
+-- as many as there are wants with such a source, where the want w has the source `source w`
 abbrev pub TalliedBy : (ℕ → Fate) → ℕ → ℕ → List Fate → List Fate → Type 0
 TalliedBy source wants n m0 m1 = Tallied (sum_below (λ w. one_if fate.Seeded (source w)) wants)
     (sum_below (λ w. one_if fate.Cached (source w)) wants) (sum_below (λ w. one_if fate.Fetched (source w)) wants) n m0

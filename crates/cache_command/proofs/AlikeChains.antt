@@ -1,92 +1,26 @@
 -- Chains that were opened of the same groups hold alike.
-use Rattle.std.proofs.Common.{◌≡◌, ◌∙◌, ℕ, Bool, false, List, [], ◌∷◌, All, map, length, is_some, Option, Some, None, IfSome, IsSome, IsTrue, refl, sym, subst, ap, slice_index_or}
+use Rattle.std.proofs.Common.{◌≡◌, ◌∙◌, ℕ, Bool, List, All, map, is_some, Some, IfSome, IsSome, IsTrue, sym, subst, ap, slice_index_or}
 use Rattle.std.proofs.lemmas.List.Elements.{All-cons}
-use Rattle.std.specs.Option.{option_map}
-use Rattle.cache_command.proofs.LentChains.{chains_later}
-use Rattle.cache_command.specs.Chains.{CanGiveChain, IsChainOpened, chain_groups}
+use Rattle.command_groups.proofs.LentChains.{chains_later}
+use Rattle.command_groups.specs.Chains.{CanGiveChain, IsChainOpened, chain_groups}
 use Rattle.cache_command.specs.Filling.{JustOpened}
 use Rattle.cache_store.specs.Shelves.{Shelf}
-use Rattle.chunk_store.specs.Folders.{chunks}
-use Rattle.command_groups.proofs.Stand.{many_stores}
+use Rattle.command_groups.proofs.Alike.{hold_alike}
 use Rattle.command_groups.proofs.Words.{group_words}
 use Rattle.command_groups.specs.Groups.{stores_of}
 use Rattle.command_groups.specs.Opened.{AreUnused, IsFresh, files_in, locations_in}
 use Rattle.command_steps.proofs.Given.{all_later}
-use Rattle.command_steps.specs.AnyStores.{IsKnown, chunks_in, source_faults, source_files}
+use Rattle.command_steps.specs.AnyStores.{IsKnown, source_faults}
 use Rattle.command_steps.specs.Cache.{with_cache}
 use Rattle.command_steps.specs.Sources.{location_files}
 use Rattle.command_steps.specs.declared.any_store.AnyStore.{AnyStore}
-use Rattle.command_steps.specs.declared.any_store.AnyStore.TheVariants as stores
 use Rattle.command_words.specs.declared.command.Location.{Location}
 use Rattle.command_worlds.specs.Worlds.{Reads}
 use Rattle.dsy_base.specs.Disk.{Disk}
 use Rattle.dsy_base.specs.Links.{DialState}
-use Rattle.dsy_base.specs.Maps.{Map}
 use Rattle.dsy_base.specs.declared.look.Look.{Ghosts as LookWords}
-use Rattle.store_chain.proofs.Pairs.{cons_head, cons_tail}
 use Rattle.store_chain.specs.Chains.{Chained}
-use Rattle.store_group.specs.Groups.{Grouped, of_one}
-
--- a type that doesn't tell has nothing to see
-untold_files : {X : Type 0} (tells looks : Bool) (o : Option X) → is_some o ≡ looks → (IsTrue looks → IsTrue tells) → tells ≡ false → o ≡ None
-untold_files tells looks None told seen quiet = refl
-untold_files tells looks (Some x) told seen quiet =
-    let no : IsTrue tells = seen (sym told) in
-    absurd (cc)
-
-map_twice : {A B C : Type 0} (g : B → C) (f : A → B) (xs : List A) → map (λ x. g (f x)) xs ≡ map g (map f xs)
-map_twice g f [] = refl
-map_twice g f (x ∷ xs) = ap (λ l. g (f x) ∷ l) (map_twice g f xs)
-
--- what a group holds, by the files of its folders
-abbrev held_by : List (Option (Map (List ℕ))) → Option (Map (List ℕ))
-held_by folders = of_one (option_map chunks) folders
-
-module _ {L D K : Type 0} (files : L → Option (Map (List ℕ))) (place : L → List ℕ) where
-  none_seen : ((l : L) → files l ≡ None) → (x : AnyStore L D K) → source_files files x ≡ None
-  none_seen none (stores.Folder l) = none l
-  none_seen none (stores.Http r) = refl
-
-  nothing_seen : ((l : L) → files l ≡ None) → (xs ys : List (AnyStore L D K)) → length xs ≡ length ys → map (source_files files) xs ≡ map (source_files files) ys
-  nothing_seen none [] [] many = refl
-  nothing_seen none [] (y ∷ ys) many = absurd (cc)
-  nothing_seen none (x ∷ xs) [] many = absurd (cc)
-  nothing_seen none (x ∷ xs) (y ∷ ys) many =
-      let rest : length xs ≡ length ys = cc in
-      let first : source_files files x ≡ source_files files y = none_seen none x ∙ sym (none_seen none y) in
-      (λ i. first i ∷ nothing_seen none xs ys rest i)
-
-  nothing_in : ((l : L) → files l ≡ None) → (xs ys : List (Grouped (AnyStore L D K))) → map (locations_in place) xs ≡ map (locations_in place) ys → map (files_in files) xs ≡ map (files_in files) ys
-  nothing_in none [] [] same = refl
-  nothing_in none [] (h ∷ ys) same = absurd (cc)
-  nothing_in none (g ∷ xs) [] same = absurd (cc)
-  nothing_in none (g ∷ xs) (h ∷ ys) same =
-      let here = cons_head (locations_in place g) (locations_in place h) (map (locations_in place) xs) (map (locations_in place) ys) same in
-      let rest = cons_tail (locations_in place g) (locations_in place h) (map (locations_in place) xs) (map (locations_in place) ys) same in
-      let first = nothing_seen none g.stores h.stores (many_stores place g h here) in
-      let others = nothing_in none xs ys rest in
-      (λ i. first i ∷ others i)
-
-  files_alike : (tells looks : Bool) → ((l : L) → is_some (files l) ≡ looks) → (IsTrue looks → IsTrue tells) → (folders : Option (Map (Map (List ℕ)))) → is_some folders ≡ tells → (names : List (List Location)) (xs ys : List (Grouped (AnyStore L D K))) → map (locations_in place) xs ≡ map (locations_in place) ys
-      → IfSome folders (λ m. map (files_in files) xs ≡ map (map (location_files m)) names) → IfSome folders (λ m. map (files_in files) ys ≡ map (map (location_files m)) names) → map (files_in files) xs ≡ map (files_in files) ys
-  files_alike tells looks told seen (Some m) tells_are names xs ys same one two = one ∙ sym two
-  files_alike tells looks told seen None tells_are names xs ys same one two = nothing_in (λ l. untold_files tells looks (files l) (told l) seen (sym tells_are)) xs ys same
-
-  group_holds : (xs : List (AnyStore L D K)) → of_one (chunks_in files) xs ≡ held_by (map (source_files files) xs)
-  group_holds [] = refl
-  group_holds (x ∷ []) = refl
-  group_holds (x ∷ y ∷ xs) = refl
-
-  all_hold : (xs : List (Grouped (AnyStore L D K))) → map (λ g. of_one (chunks_in files) g.stores) xs ≡ map (λ g. held_by (files_in files g)) xs
-  all_hold [] = refl
-  all_hold (g ∷ xs) = λ i. group_holds g.stores i ∷ all_hold xs i
-
-  -- two lists of groups that were opened for the same words from the same folders
-  pub hold_alike : (tells looks : Bool) → ((l : L) → is_some (files l) ≡ looks) → (IsTrue looks → IsTrue tells) → (folders : Option (Map (Map (List ℕ)))) → is_some folders ≡ tells → (names : List (List Location)) (xs ys : List (Grouped (AnyStore L D K)))
-      → map (locations_in place) xs ≡ names → map (locations_in place) ys ≡ names → IfSome folders (λ m. map (files_in files) xs ≡ map (map (location_files m)) names) → IfSome folders (λ m. map (files_in files) ys ≡ map (map (location_files m)) names)
-      → map (λ g. of_one (chunks_in files) g.stores) xs ≡ map (λ g. of_one (chunks_in files) g.stores) ys
-  hold_alike tells looks told seen folders tells_are names xs ys at there one two =
-      all_hold xs ∙ map_twice held_by (files_in files) xs ∙ ap (map held_by) (files_alike tells looks told seen folders tells_are names xs ys (at ∙ sym there) one two) ∙ sym (map_twice held_by (files_in files) ys) ∙ sym (all_hold ys)
+use Rattle.store_group.specs.Groups.{Grouped}
 
 module _ {L D K : Type 0} (look : LookWords L) (state : D → DialState) where
   -- the groups of the first worker were opened, those of the further ones, and the folder of the cache was taken

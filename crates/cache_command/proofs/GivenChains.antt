@@ -2,9 +2,9 @@
 use Rattle.std.proofs.Common.{◌≡◌, ◌∙◌, ℕ, suc, ◌+◌, ◌<◌, List, ◌∷◌, All, length, map, Option, refl, arith, slice_index_or}
 use Rattle.std.proofs.lemmas.List.Elements.{AllZip-get_or, length_all_zip}
 use Rattle.std.specs.List.{AllZip, fold}
-use Rattle.cache_command.proofs.LentChains.{chains_consult}
+use Rattle.command_groups.proofs.LentChains.{chains_consult}
 use Rattle.cache_command.specs.Caching.{IsGetAmong, listed_times}
-use Rattle.cache_command.specs.Chains.{IsChainGiven, chain_groups}
+use Rattle.command_groups.specs.Chains.{IsChainGiven, chain_groups}
 use Rattle.cache_command.specs.Filling.{AsksListings}
 use Rattle.caibx_codec.specs.Listing.{Listing}
 use Rattle.chunk_store.specs.declared.store.Store.{Ghosts as StoreWords}

@@ -1,4 +1,4 @@
--- Indexes that are had one after the other while a cache is filled.
+-- Indexes that are obtained one after the other while a cache is filled.
 use Rattle.std.proofs.Common.{◌≡◌, ◌∙◌, ◌&&◌, ℕ, Bool, true, false, IsTrue, List, [], ◌∷◌, Option, Result, Ok, Err, All, refl, sym, subst, inl, arith}
 use Rattle.std.proofs.lemmas.List.Elements.{All-head}
 use Rattle.caibx_codec.specs.Listing.{Listing}

@@ -1,7 +1,6 @@
 pub mod Renumbered
 pub mod CacheFilled
 pub mod AskedListings
-pub mod LentChains
 pub mod GivenChains
 pub mod AlikeChains
 pub mod Had

@@ -76,7 +76,7 @@ module _ (N : Refused → Refused → Type 0) where
   fault_as faults.CacheFault o p is named = (faults.CacheFault, subst (λ (e : Outcome). IsOutcomeAs e p) is named, refl)
   fault_as faults.Memory o p is named = (faults.Memory, subst (λ (e : Outcome). IsOutcomeAs e p) is named, refl)
 
-  -- why an index wasn't had names no store
+  -- why an index wasn't obtained names no store
   spelled_at : (w v : Storage) (q : List ℕ) (at : Result IndexPlace NoLocation) (o p : Outcome) → IsOutcomeAs o p → NotSpelledAt q at w v o → o ≡ p
   spelled_at w v q (Ok (places.File name)) (ends.Damaged k id s x) p named h = absurd h
   spelled_at w v q (Ok (places.File name)) (ends.StoreFault s) p named h = absurd h

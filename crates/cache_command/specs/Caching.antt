@@ -156,7 +156,7 @@ module _ (over : Evidence) where
     AllFilled (q ∷ indexes) x y = (l : Listing) × IndexSpells w v q l × (z : Option (Map (List ℕ)))
         × IndexFilled l x z (Ok tt) × AllFilled indexes z y
 
-    -- the first index that wasn't had, or by which the cache couldn't be filled
+    -- the first index that wasn't obtained, or by which the cache couldn't be filled
     abbrev pub NotFilled : List (List ℕ) → Option (Map (List ℕ)) → Option (Map (List ℕ)) → Outcome → Type 0
     NotFilled [] x y o = ⊥
     NotFilled (q ∷ indexes) x y o = (NotSpelled w v q o × (y ≡ x)) ⊎ ((l : Listing) × IndexSpells w v q l
@@ -192,7 +192,7 @@ pub record GetsListed (w v : Storage) (e most : ℕ) (indexes : List (List ℕ))
     : Type 0 where
   pub listings : List Listing
   pub read : FrontSpelled w v indexes listings
-  -- what had ended when the indexes were had
+  -- what had ended when the indexes were obtained
   pub ended : Option (List Traffic)
   pub fetches : AsksInTurn indexes w.dial.ended ended
   pub workers : ℕ
@@ -237,9 +237,9 @@ abbrev pub HoldsInOrder : List Listing → Map (List ℕ) → Type 0
 HoldsInOrder [] m = Unit {0}
 HoldsInOrder (l ∷ ls) m = ((i : ℕ) → i < count_of l → Any (HoldsListed m (id_of l i)) (l ∷ ls)) × HoldsInOrder ls m
 
--- each INDEX spells an index, as is said, and the cache's folder, which was there, holds bytes with the name of each
--- chunk that it lists. Only a later INDEX that lists the id with the other kind of digest may have put others there,
--- which have that name by its kind. No other folder has changed
+-- each INDEX spells an index by the relation that is given, and the cache's folder, which was there, holds bytes with
+-- the digest of each chunk that it lists. Only a later INDEX that lists the id with the other kind of digest may have
+-- put others there, which have that digest by its kind. No other folder has changed
 pub record IsCached (Spelled : List ℕ → Listing → Type 0) (folders folders_after : Map (Map (List ℕ))) (cache : List ℕ)
     (indexes : List (List ℕ)) : Type 0 where
   pub listings : List Listing

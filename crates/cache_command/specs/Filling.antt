@@ -10,7 +10,7 @@ use Rattle.command_indexes.specs.Places.{are_files}
 use Rattle.command_indexes.specs.Spelled.{AsksInTurn}
 use Rattle.command_steps.specs.AnyStores.{source_faults}
 use Rattle.command_steps.specs.Cache.{with_cache}
-use Rattle.cache_command.specs.Chains.{CanGiveChain, chain_groups}
+use Rattle.command_groups.specs.Chains.{CanGiveChain, chain_groups}
 use Rattle.command_steps.specs.Dials.{Dials}
 use Rattle.command_steps.specs.Sources.{Storage, location_files}
 use Rattle.command_steps.specs.declared.any_store.AnyStore.{AnyStore}
@@ -50,8 +50,8 @@ pub record JustOpened {L D K : Type 0} (look : LookWords L) (state : D → DialS
   pub cache_known : IsSome (d.folder_counts cache)
   pub cache_fresh : s.faults ≡ 0
 
--- indexes were had in order, as far as they were wanted: where all are files no server was asked for one, and else each
--- server on one connection at most
+-- indexes were obtained in order, as far as they were wanted: where all are files no server was asked for one, and else
+-- each server on one connection at most
 pub record AreHad (indexes : List (List ℕ)) (w v : Storage) : Type 0 where
   pub reads : Reads w.disk v.disk
   pub dials : Dials w.dial v.dial

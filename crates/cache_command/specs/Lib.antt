@@ -1,3 +1,2 @@
 pub mod Caching
-pub mod Chains
 pub mod Filling

@@ -4,10 +4,10 @@
 ghost use Rattle.std.specs.Prelude.{◌≡◌, ◌⊎◌, ℕ, List, ◌+◌, ◌-◌, ◌≤◌, ◌∷◌, length, All, IfOk, IfErr, Ok, Err, Some};
 ghost use Rattle.std.specs.List.{AllZip};
 ghost use Rattle.cache_command.specs.Caching.{CacheEnds, FillsEach, FrontSpelled, IndexesFilled, of_calls};
-ghost use Rattle.cache_command.specs.Chains.{chain_groups};
 ghost use Rattle.cache_command.specs.Filling.{AreHad, AsksListings, HoldAlike, JustOpened};
 ghost use Rattle.cache_store.specs.Shelves.{shelf_of};
 ghost use Rattle.caibx_codec.specs.Listing.{Listing};
+ghost use Rattle.command_groups.specs.Chains.{chain_groups};
 ghost use Rattle.command_groups.specs.Groups.{AreGroups, stores_of};
 ghost use Rattle.command_steps.specs.Cache.{CacheOpened, with_cache};
 ghost use Rattle.command_steps.specs.Sources.{SourcesOpened, storage};
@@ -15,10 +15,10 @@ ghost use Rattle.command_words.specs.Locations.{NamesIndex};
 ghost use Rattle.command_worlds.specs.Worlds.{world};
 ghost use Rattle.dsy_base.specs.Disk.{Disk, Output};
 
-use crate::chains::{close_chains, drop_chains, open_chains};
 use crate::filling::{Filling, fill_by, filling_of};
 use chunk_store::id::DigestKind;
 use chunk_store::store::Store;
+use command_groups::chains::{close_chains, drop_chains, open_chains};
 use command_groups::groups::{close_groups, drop_groups, open_groups};
 use command_groups::numbers::numbered;
 use command_indexes::load::load_index;
@@ -120,8 +120,9 @@ fn reach<F: ImageFiles, D: Dial>(
         Ok(opened) => opened,
         Err(outcome) => return Err(outcome),
     };
-    let further = open_chains(alloc, files, dial, groups, retries, workers as usize);
-    match take_shelf(alloc, files, DigestKind::Sha512T256, cache) {
+    let kind = DigestKind::Sha512T256;
+    let further = open_chains(alloc, files, dial, kind, groups, retries, workers as usize);
+    match take_shelf(alloc, files, kind, cache) {
         Ok(shelf) => Ok(filling_of(shelf, opened, further)),
         Err(outcome) => {
             drop_chains(files, further);
@@ -167,9 +168,9 @@ where
     answer
 }
 
-/// Puts the chunks that the indexes list into CACHE, index by index, up to the first chunk that isn't had. What CACHE
-/// holds already is left where it is right; what it lacks comes from the stores, which are asked in order. Each worker
-/// has stores of its own; where they can't be opened again there are fewer.
+/// Puts the chunks that the indexes list into CACHE, index by index, up to the first chunk that isn't obtained. What
+/// CACHE holds already is left where it is right; what it lacks comes from the stores, which are asked in order. Each
+/// worker has stores of its own; where they can't be opened again there are fewer.
 pub fn fill_cache<R: Threads + Sync, F: ImageFiles, D: Dial + Send>(
     rt: &R,
     alloc: Global,

@@ -2,5 +2,4 @@
 #![tactic(auto)]
 
 pub mod cache;
-mod chains;
 mod filling;

@@ -87,7 +87,7 @@ fn fill_entries<R: Threads + Sync, F: Folder, S: Store + Send>(
     filled
 }
 
-// Whether the cache lacks a chunk, and there is memory for readers of so many chains.
+// Whether the cache lacks a chunk, and there is memory for readers of this many chains.
 fn may_hire<S: Store>(
     readers: &Vec<WantReader<S>>,
     buffers: &Vec<Vec<u8>>,

@@ -31,7 +31,7 @@ pub enum Kept {
     Memory,
 }
 
-/// A chunk that was had.
+/// A chunk that was obtained.
 #[derive(Clone, Copy, Debug, PartialEq, Eq)]
 pub struct Got {
     pub size: usize,

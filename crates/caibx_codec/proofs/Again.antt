@@ -35,7 +35,7 @@ under : (n m : ℕ) → n < m → nat_lt n m ≡ true
 under n m h = grind (arith, nat_tests)
 
 -- all bytes that the next field still needs
-reads_field : (r : Read) (x : ℕ) (xs rest : List ℕ) → length r.part + length (x ∷ xs) ≡ need r.fields.next → reads_index r ((x ∷ xs) ++ rest) ≡ (judge r (r.part ++ x ∷ xs) >>= λ s. reads_index s rest)
+pub reads_field : (r : Read) (x : ℕ) (xs rest : List ℕ) → length r.part + length (x ∷ xs) ≡ need r.fields.next → reads_index r ((x ∷ xs) ++ rest) ≡ (judge r (r.part ++ x ∷ xs) >>= λ s. reads_index s rest)
 unfolding push_to_index
 reads_field r x [] rest len =
     let last : nat_lt (length r.part + 1) (need r.fields.next) ≡ false = above (length r.part + 1) (need r.fields.next) (omega arith) in

@@ -1,5 +1,5 @@
 -- From what was read to what is answered.
-use Rattle.std.proofs.Common.{◌≡◌, ◌≢◌, ℕ, ◌+◌, ◌≤◌, Bool, true, false, cond, List, [], ◌++◌, length, Some, None, Result, Ok, Err, refl, sym, ap, subst, ◌∙◌, arith, lit≤}
+use Rattle.std.proofs.Common.{◌≡◌, ◌≢◌, ℕ, ◌+◌, ◌≤◌, Bool, true, false, cond, List, [], ◌++◌, length, Result, Ok, Err, refl, sym, ap, subst, ◌∙◌, arith, lit≤}
 use Rattle.std.specs.Prelude.{OnOk}
 use Rattle.caibx_fields.specs.declared.fault.IndexFault.{IndexFault}
 use Rattle.caibx_fields.specs.declared.fault.IndexFault.TheVariants as faults
@@ -8,7 +8,6 @@ use Rattle.caibx_fields.specs.declared.field.Field.TheVariants as field
 use Rattle.caibx_codec.specs.declared.reading.ReadFault.{ReadFault}
 use Rattle.caibx_codec.specs.declared.reading.ReadFault.TheVariants as errors
 use Rattle.caibx_fields.specs.Fields.{place_of}
-use Rattle.caibx_codec.specs.Judge.{Judged}
 use Rattle.caibx_codec.specs.Listing.{Listing}
 use Rattle.caibx_codec.specs.Spelling.{IsIndexFile}
 use Rattle.caibx_codec.specs.Answers.{ReadGoes, Judges, ReadEnds, FindsIndex}
@@ -18,7 +17,6 @@ use Rattle.caibx_codec.proofs.Again.{file_read}
 use Rattle.caibx_codec.proofs.Pieces.{reads-append}
 use Rattle.caibx_codec.proofs.Steps.{IsBytes, ok_is}
 use Rattle.caibx_codec.proofs.Taken.{stands_on, start_stands, start_bytes, no_longer, whole_file, bytes_length}
-use Rattle.caibx_codec.proofs.Valid.{no_fault}
 
 pub start_for : IsReachedBy index_start []
 start_for = record { stands = start_stands; is = start_bytes; size = lit≤ tt }
@@ -62,18 +60,6 @@ unfolding index_in
 whole_read r stands h =
     ap (λ a. a >>= λ s. cond (is_read_whole s.fields.next) (Ok (listing_read s)) (Err (faults.Truncated (length (bytes_of r))))) stands.reads
     ∙ ap (λ b. cond b (Ok (listing_read r)) (Err (faults.Truncated (length (bytes_of r))))) (is_nothing r.fields.next h)
-
--- as the code comes to it, which sees the fields
-pub whole_index : (r : Read) (made : Result Listing IndexFault) (i : Listing) → IsReached r → r.fields.next ≡ field.Nothing → Judged (listing_read r) made → made ≡ Ok i → index_in (bytes_of r) ≡ Ok i
-whole_index r (Ok m) i stands h judged is = whole_read r stands h ∙ ap (λ l. Ok l) (sym judged.1) ∙ is
-whole_index r (Err f) i stands h judged is = absurd (cc)
-
-pub no_fault_left : {P : Type 0} (r : Read) (made : Result Listing IndexFault) (f : IndexFault) → IsReached r → Judged (listing_read r) made → made ≡ Err f → P
-no_fault_left r (Ok m) f stands judged is = absurd (cc)
-no_fault_left r (Err g) f stands judged is =
-    let none = no_fault (listing_read r) stands.good.sound.valid in
-    let some : None ≡ Some g = sym none ∙ judged in
-    absurd (cc)
 
 -- ---- right answers
 
@@ -122,12 +108,7 @@ module _ (r seen : Read) (is : seen ≡ r) (stands : IsReached r) where
   pub ends_cut : (at : ℕ) → at ≡ length (bytes_of r) → seen.fields.next ≢ field.Nothing → AnswersBoth r (Err (errors.Bad (faults.Truncated at)))
   ends_cut at counted h = both (Err (errors.Bad (faults.Truncated at))) (cut_short r at stands counted (λ n. h (next_is ∙ n)))
 
-  module _ (made : Result Listing IndexFault) (judged : Judged (listing_read seen) made) where
-    judged_there : Judged (listing_read r) made
-    judged_there = subst (λ x. Judged (listing_read x) made) is judged
-
-    pub ends_whole : (i : Listing) → seen.fields.next ≡ field.Nothing → made ≡ Ok i → AnswersBoth r (Ok i)
-    ends_whole i h ok = both (Ok i) (whole_index r made i stands (sym next_is ∙ h) judged_there ok)
-
-    pub ends_never : (f : IndexFault) → made ≡ Err f → AnswersBoth r (Err (errors.Bad f))
-    ends_never f err = no_fault_left r made f stands judged_there err
+  pub ends_whole : (l : Listing) → seen.fields.next ≡ field.Nothing → l ≡ listing_read seen → AnswersBoth r (Ok l)
+  ends_whole l h made =
+      let same : Ok (listing_read r) ≡ Ok l = ap (λ x. Ok (listing_read x)) (sym is) ∙ ap Ok (sym made) in
+      both (Ok l) (whole_read r stands (sym next_is ∙ h) ∙ same)

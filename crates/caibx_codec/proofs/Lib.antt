@@ -5,6 +5,7 @@ pub mod Steps
 pub mod Taken
 pub mod Continued
 pub mod Again
+pub mod Fronts
 pub mod Answered
 pub mod Views
 pub mod Written

@@ -1,8 +1,8 @@
 -- Entries without a fault are chunks.
-use Rattle.std.proofs.Common.{◌≡◌, ℕ, ◌+◌, ◌<◌, ◌≤◌, List, [], ◌∷◌, None, refl, arith}
+use Rattle.std.proofs.Common.{◌≡◌, ℕ, ◌+◌, ◌<◌, ◌≤◌, List, [], ◌∷◌, None, arith}
 use Rattle.std.proofs.lemmas.Bool.Decides.{nat_tests}
-use Rattle.caibx_codec.specs.Judge.{entry_fault, index_fault}
-use Rattle.caibx_codec.specs.Listing.{Listing, IsValid, AreChunks}
+use Rattle.caibx_codec.specs.Judge.{entry_fault}
+use Rattle.caibx_codec.specs.Listing.{AreChunks}
 
 -- the tests that passed at the first entry, and no fault at the others
 first_passed : (greatest k start : ℕ) (e : ℕ × List ℕ) (es : List (ℕ × List ℕ)) → entry_fault greatest k start (e ∷ es) ≡ None → (start < e.0) × (e.0 ≤ start + greatest) × (entry_fault greatest (k + 1) e.0 es ≡ None)
@@ -13,16 +13,3 @@ chunks_of greatest k start [] h = tt
 chunks_of greatest k start (e ∷ es) h =
     let passed = first_passed greatest k start e es h in
     (passed.0, passed.1, chunks_of greatest (k + 1) e.0 es passed.2)
-
--- and chunks have no fault
-first_passes : (greatest k start : ℕ) (e : ℕ × List ℕ) (es : List (ℕ × List ℕ)) → start < e.0 → e.0 ≤ start + greatest → entry_fault greatest (k + 1) e.0 es ≡ None → entry_fault greatest k start (e ∷ es) ≡ None
-first_passes greatest k start e es above fits rest = grind (arith, nat_tests)
-
-no_entry_fault : (greatest k start : ℕ) (es : List (ℕ × List ℕ)) → AreChunks greatest start es → entry_fault greatest k start es ≡ None
-no_entry_fault greatest k start [] h = refl
-no_entry_fault greatest k start (e ∷ es) h = first_passes greatest k start e es h.0 h.1 (no_entry_fault greatest (k + 1) e.0 es h.2)
-
-pub no_fault : (l : Listing) → IsValid l → index_fault l ≡ None
-no_fault l valid =
-    let entries = no_entry_fault l.greatest 0 0 l.entries valid.chunks in
-    grind (arith, nat_tests, valid.size, valid.few, entries)

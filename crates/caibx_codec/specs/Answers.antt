@@ -1,5 +1,5 @@
 -- What calls that read an index may answer.
-use Rattle.std.specs.Prelude.{◌≡◌, ℕ, List, Result, Ok, Err, Some, None}
+use Rattle.std.specs.Prelude.{◌≡◌, ℕ, List, Result, Ok, Err, Some, None, drop}
 use Rattle.caibx_fields.specs.declared.fault.IndexFault.{IndexFault}
 use Rattle.caibx_codec.specs.declared.reading.ReadFault.{ReadFault}
 use Rattle.caibx_codec.specs.declared.reading.ReadFault.TheVariants as errors
@@ -7,7 +7,7 @@ use Rattle.caibx_codec.specs.declared.reading.ViewFault.{ViewFault}
 use Rattle.caibx_codec.specs.declared.reading.ViewFault.TheVariants as viewed
 use Rattle.caibx_codec.specs.Listing.{Listing}
 use Rattle.caibx_codec.specs.Spelling.{IsIndexFile}
-use Rattle.caibx_codec.specs.Reading.{Read, first_fault, index_in}
+use Rattle.caibx_codec.specs.Reading.{Read, reads_index, first_fault, index_in}
 
 -- a step of reading that leads to `read` stopped for this reason
 abbrev pub ReadStops : ReadFault → Result Read IndexFault → Type 0
@@ -19,6 +19,11 @@ ReadStops errors.Over read = ⊥
 abbrev pub ReadGoes : {A : Type 0} → Result Read IndexFault → Result A ReadFault → Read → Type 0
 ReadGoes read (Ok x) new = read ≡ Ok new
 ReadGoes read (Err e) new = ReadStops e read
+
+-- a step took some of these bytes, from the first on, and left `new`, or stopped
+abbrev pub ReadsSome : Read → List ℕ → Result ℕ ReadFault → Read → Type 0
+ReadsSome old bytes (Ok n) new = reads_index old bytes ≡ reads_index new (drop n bytes)
+ReadsSome old bytes (Err e) new = ReadStops e (reads_index old bytes)
 
 -- a reader was fed these bytes in all, and had not refused before the last
 abbrev pub Judges : {A : Type 0} → List ℕ → Result A ReadFault → Type 0

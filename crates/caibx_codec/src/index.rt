@@ -112,6 +112,34 @@ impl Index {
         }
     }
 
+    // The index of these entries, which were judged one by one.
+    pub(crate) fn of_valid(flags: u64, min: u64, avg: u64, max: u64, entries: Vec<Entry>) -> Index
+        requires { IsValid (record {
+          flags = flags;
+          least = min;
+          average = avg;
+          greatest = max;
+          entries = pairs
+              entries.items;
+        }) }
+        ensures { result ≡ record {
+          flags = flags;
+          least = min;
+          average = avg;
+          greatest = max;
+          entries = pairs
+              entries.items;
+        } }
+    {
+        Index {
+            flags,
+            min,
+            avg,
+            max,
+            entries,
+        }
+    }
+
     /// What the rules say of each chunk by its number. Nothing is done.
     pub fn rules(&self)
         ensures { Rules self.now }

@@ -1,16 +1,16 @@
 //! A front of an index file, read without a fault: the words and items that stand whole in it,
 //! and the bytes of the field that comes next.
 
-ghost use Rattle.std.specs.Prelude.{◌≡◌, ◌≢◌, ◌<◌, ◌++◌, ℕ, [], length, OnOk};
+ghost use Rattle.std.specs.Prelude.{◌≡◌, ◌≢◌, ◌<◌, ◌≤◌, ◌++◌, ℕ, [], length, IfOk, OnOk};
 ghost use Rattle.caibx_fields.specs.Fields.{need};
-ghost use Rattle.caibx_codec.specs.Answers.{ReadEnds, FindsIndex, ReadGoes, Judges};
+ghost use Rattle.caibx_codec.specs.Answers.{ReadEnds, FindsIndex, ReadGoes, ReadsSome, Judges};
 ghost use Rattle.caibx_codec.specs.Reading.{judge, push_to_index, reads_index, index_start};
 ghost use Rattle.caibx_codec.specs.Standing.{bytes_of, IsReached, IsReachedBy};
 
 use crate::index::{Entry, Index};
 use crate::reading::ReadFault;
 use caibx_fields::fault::IndexFault;
-use caibx_fields::field::{Field, Fields, judge_word, place, width};
+use caibx_fields::field::{Field, Fields, judge_end, judge_word, place, width};
 use caibx_fields::word::number;
 use chunk_store::id::ChunkId;
 use std::alloc::Global;
@@ -61,29 +61,39 @@ impl Partial {
         }
     }
 
+    // Judges an id, which comes next.
+    #[tactic(auto, using(crate::proofs::Fields::judging))]
+    fn judge_id(&mut self, bytes: &[u8]) -> Result<(), ReadFault>
+        requires next { self.old.fields.next ≡ Field.Id }
+        requires size { length bytes.now ≡ 32 }
+        ensures { ReadGoes (judge self.old bytes.now) result self.new }
+    {
+        self.filled = 0;
+        let mut id = [0; 32];
+        id.copy_from_slice(bytes);
+        self.entries.push(Entry {
+            end: self.fields.end,
+            id: ChunkId(id),
+        })?;
+        self.fields.next = Field::End;
+        Ok(())
+    }
+
     // Judges all bytes of the next field.
     #[tactic(auto, using(crate::proofs::Fields::judging))]
     fn judge(&mut self, bytes: &[u8]) -> Result<(), ReadFault>
         requires { length bytes.now ≡ need self.old.fields.next }
         ensures { ReadGoes (judge self.old bytes.now) result self.new }
     {
-        self.filled = 0;
         match self.fields.next {
-            Field::Id => {
-                let mut id = [0; 32];
-                id.copy_from_slice(bytes);
-                self.entries.push(Entry {
-                    end: self.fields.end,
-                    id: ChunkId(id),
-                })?;
-                self.fields.next = Field::End;
-            }
+            Field::Id => self.judge_id(bytes)?,
             Field::Nothing => return Err(ReadFault::Bad(IndexFault::Trailing)),
             _ => {
                 match judge_word(self.fields, self.entries.len(), number(bytes)) {
                     Ok(fields) => self.fields = fields,
                     Err(fault) => return Err(ReadFault::Bad(fault)),
                 }
+                self.filled = 0;
             }
         }
         Ok(())
@@ -104,12 +114,53 @@ impl Partial {
         self.judge(&part[..filled + 1])
     }
 
+    // Takes an item, whose end comes next and has 8 bytes, and its id 32; or the first word of the tail. Answers how
+    // many bytes.
+    fn take_item(&mut self, piece: &[u8]) -> Result<usize, ReadFault>
+        requires next { self.old.fields.next ≡ Field.End }
+        requires empty { self.old.part ≡ [] }
+        requires size { 40 ≤ length piece.now }
+        ensures inside { IfOk result (λ n. (0 < n) × (n ≤ length piece.now)) }
+        ensures value { ReadsSome self.old piece.now result self.new }
+    {
+        match judge_end(self.fields, self.entries.len(), number(&piece[..8])) {
+            Ok(fields) => self.fields = fields,
+            Err(fault) => return Err(ReadFault::Bad(fault)),
+        }
+        let Field::Id = self.fields.next else {
+            return Ok(8);
+        };
+        self.judge_id(&piece[8..40])?;
+        Ok(40)
+    }
+
+    // Takes all bytes of the next item or field where the piece begins with them, else one byte. Answers how many.
+    fn take_some(&mut self, piece: &[u8]) -> Result<usize, ReadFault>
+        requires { 0 < length piece.now }
+        ensures inside { IfOk result (λ n. (0 < n) × (n ≤ length piece.now)) }
+        ensures value { ReadsSome self.old piece.now result self.new }
+    {
+        let width = width(self.fields.next);
+        if self.filled != 0 || piece.len() < width {
+            self.push(piece[0])?;
+            return Ok(1);
+        }
+        if let Field::End = self.fields.next
+            && 40 <= piece.len()
+        {
+            return self.take_item(piece);
+        }
+        self.judge(&piece[..width])?;
+        Ok(width)
+    }
+
     // Takes more bytes.
     fn take(&mut self, piece: &[u8]) -> Result<(), ReadFault>
         ensures { ReadGoes (reads_index self.old piece.now) result self.new }
     {
-        for byte in piece {
-            self.push(*byte)?;
+        let mut at = 0usize;
+        while at < piece.len() {
+            at += self.take_some(&piece[at..])?;
         }
         Ok(())
     }
@@ -150,9 +201,6 @@ impl Partial {
             max,
             ..
         } = self.fields;
-        match Index::new(flags, min, avg, max, self.entries) {
-            Ok(index) => Ok(index),
-            Err(fault) => Err(ReadFault::Bad(fault)),
-        }
+        Ok(Index::of_valid(flags, min, avg, max, self.entries))
     }
 }

@@ -79,9 +79,9 @@ pub fn place(field: Field, count: usize) -> u64
     }
 }
 
-// The word says where the chunk after `count` others ends, or begins the tail.
+/// What was read with an item's first word, after `count` items: it says where the chunk ends, or begins the tail.
 #[tactic(auto, unfolding(crate::specs::Fields::end_judged))]
-fn judge_end(fields: Fields, count: usize, word: u64) -> Result<Fields, IndexFault>
+pub fn judge_end(fields: Fields, count: usize, word: u64) -> Result<Fields, IndexFault>
     ensures { result ≡ end_judged fields count word }
 {
     if word == 0 {

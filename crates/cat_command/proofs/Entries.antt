@@ -120,7 +120,7 @@ module _ {S : Type 0} (store : StoreWords S) (at n i done m : ℕ) (old mid new 
   covered : IsCovered l from m i
   covered = part_covered l rules i from listed starts m short some
 
-  -- so many entries of the part were read
+  -- this many entries of the part were read
   reads_none_more : (k : ℕ) (now : ReaderState S) → k ≤ i → ReadsTo store from m k here now → ReadsTo store at n i old now
   reads_none_more k now le then =
       let none = none_wanted l rules i from listed starts m short k le in

@@ -13,7 +13,7 @@ pub(crate) struct Range {
 }
 
 impl Range {
-    /// From this offset on up to the image's end, or so many bytes where there are more.
+    /// From this offset on up to the image's end, or this many bytes where there are more.
     pub(crate) fn of(index: &Index, offset: u64, length: Option<u64>) -> Range
         ensures from { result.at ≡ offset }
         ensures size { result.size ≡ range_size index.now offset length }

@@ -3,3 +3,4 @@ pub mod Sure
 pub mod Stepped
 pub mod Sought
 pub mod Exact
+pub mod Asked

@@ -1,4 +1,5 @@
 pub mod States
 pub mod Answers
 pub mod Obtaining
+pub mod Leaving
 pub mod Talks

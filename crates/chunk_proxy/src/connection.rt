@@ -2,6 +2,7 @@
 
 ghost use Rattle.std.specs.Prelude.{◌≡◌, ◌≤◌, map, IfSome};
 ghost use Rattle.dsy_base.specs.Counts.{Rose};
+ghost use Rattle.chunk_proxy.specs.Leaving.{KeepsBehind};
 ghost use Rattle.chunk_proxy.specs.States.{maps_in, proxy_state};
 ghost use Rattle.chunk_proxy.specs.Talks.{TalksExactly, proxy_protocol};
 ghost use Rattle.http_serve.specs.Streams.{given_in};
@@ -46,6 +47,7 @@ pub fn serve_proxy_connection<K: Link, F: Folder, S: Store>(
     ensures cause { result ≡ Served.LinkFault → Rose (K.state link.old).faults (K.state link.new).faults }
     ensures given { given_in (K.state link.new).traffic ≡ given_in (K.state link.old).traffic }
     ensures faults { (K.state link.old).faults ≤ (K.state link.new).faults }
+    ensures changed { KeepsBehind F.files F.place F.faults S.Store state.old state.new }
     ensures stores { map S.holds state.new.chain.stores ≡ map S.holds state.old.chain.stores }
     ensures place { F.place state.new.shelf.folder ≡ F.place state.old.shelf.folder }
     ensures kind { state.new.chain.kind ≡ state.old.chain.kind }

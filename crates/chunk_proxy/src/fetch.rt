@@ -3,6 +3,7 @@
 ghost use Rattle.std.specs.Prelude.{◌≡◌, ◌≢◌, ◌≤◌, length, map, take, None, Some, IfOk, IfSome, OnErr};
 ghost use Rattle.cache_store.specs.Shelves.{Stocks, shelf_of};
 ghost use Rattle.caibx_fields.specs.Limits.{size_limit};
+ghost use Rattle.chunk_proxy.specs.Leaving.{AsksForChunks};
 ghost use Rattle.chunk_proxy.specs.Obtaining.{IsRightChunk, SeeksChunk, TellsChunk, TellsOf};
 ghost use Rattle.chunk_server.specs.Reads.{answer_by};
 ghost use Rattle.http_serve.specs.Answers.{answer_in};
@@ -84,6 +85,7 @@ pub(crate) fn fetch<F: Folder, S: Store>(
     ensures err { OnErr result (SeeksChunk F.files F.place F.faults S.Store id.now cached.old cached.new) }
     ensures stocks { Stocks (IsRightChunk cached.old.chain.kind) (shelf_of F.files F.place F.faults cached.old.shelf)
         (shelf_of F.files F.place F.faults cached.new.shelf) }
+    ensures asks { AsksForChunks S.Store cached.old.chain.stores cached.new.chain.stores }
     ensures stores { map S.holds cached.new.chain.stores ≡ map S.holds cached.old.chain.stores }
     ensures place { F.place cached.new.shelf.folder ≡ F.place cached.old.shelf.folder }
     ensures kind { cached.new.chain.kind ≡ cached.old.chain.kind }

@@ -5,6 +5,6 @@
 pub mod connection;
 mod fetch;
 pub mod laws;
-mod proxy_service;
+pub mod proxy_service;
 pub mod state;
 pub mod upstream;

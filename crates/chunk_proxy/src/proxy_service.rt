@@ -14,7 +14,7 @@ use std::marker::PhantomData;
 
 /// How requests for chunks are read, and answered by a cache before stores. One that is refused, as each PUT is, isn't
 /// shown to it.
-pub(crate) struct ProxyService<F: Folder, S: Store> {
+pub struct ProxyService<F: Folder, S: Store> {
     folder: PhantomData<F>,
     store: PhantomData<S>,
 }
@@ -22,6 +22,7 @@ pub(crate) struct ProxyService<F: Folder, S: Store> {
 impl<F: Folder, S: Store> Service for ProxyService<F, S> {
     ghost use Rattle.std.specs.Prelude.{refl, ℕ, List, map};
     ghost use Rattle.caibx_fields.specs.Limits.{size_limit};
+    ghost use Rattle.chunk_proxy.specs.Leaving.{KeepsBehind, leaves_on, leaves_same};
     ghost use Rattle.chunk_proxy.specs.States.{ProxyFiles, ProxySetting, proxy_state, told_of};
     ghost use Rattle.chunk_proxy.specs.Talks.{proxy_protocol};
 
@@ -45,7 +46,13 @@ impl<F: Folder, S: Store> Service for ProxyService<F, S> {
 
     ghost limit = { size_limit };
 
+    ghost leaves = { λ s t. KeepsBehind F.files F.place F.faults S.Store s t };
+
     ghost same = { λ x m q h. refl };
+
+    ghost leaves_none = { λ s. leaves_same F.files F.place F.faults _ s };
+
+    ghost leaves_more = { λ s t u one more. leaves_on F.files F.place F.faults _ s t u one more };
 
     fn read(_desk: &ProxyState<F, S>, _alloc: Global, head: &[u8]) -> Result<Request, Memory> {
         Ok(read_request(head, false))

@@ -3,6 +3,7 @@
 ghost use Rattle.std.specs.Prelude.{◌≡◌, ◌≤◌, length, map, false, None, IfOk, IfSome, OnErr};
 ghost use Rattle.cache_store.specs.Shelves.{Stocks, shelf_of};
 ghost use Rattle.chunk_proxy.specs.Answers.{AnswersThrough, IsProxyAnswer, LacksThrough};
+ghost use Rattle.chunk_proxy.specs.Leaving.{AsksForChunks};
 ghost use Rattle.chunk_proxy.specs.Obtaining.{IsRightChunk, RepliesSo};
 ghost use Rattle.chunk_proxy.specs.States.{maps_in, proxy_state};
 ghost use Rattle.http_serve.specs.Answers.{answer_in};
@@ -81,6 +82,9 @@ impl<F: Folder, S: Store> ProxyState<F, S> {
         // Under each id the cache holds what it held, or right bytes, whatever fails. Files of other names stay.
         ensures stocks { Stocks (IsRightChunk self.old.chain.kind) (shelf_of F.files F.place F.faults self.old.shelf)
             (shelf_of F.files F.place F.faults self.new.shelf) }
+
+        // The stores are asked for chunks alone.
+        ensures asks { AsksForChunks S.Store self.old.chain.stores self.new.chain.stores }
 
         ensures stores { map S.holds self.new.chain.stores ≡ map S.holds self.old.chain.stores }
         ensures place { F.place self.new.shelf.folder ≡ F.place self.old.shelf.folder }

@@ -38,7 +38,13 @@ impl<H: Shelf> Service for ShelfService<H> {
 
     ghost limit = { size_limit };
 
+    ghost leaves = { λ s t. Unit {0} };
+
     ghost same = { λ x m q h. refl };
+
+    ghost leaves_none = { λ s. tt };
+
+    ghost leaves_more = { λ s t u one more. tt };
 
     fn read(desk: &H, _alloc: Global, head: &[u8]) -> Result<Request, Memory> {
         Ok(read_request(head, desk.writable()))

@@ -167,7 +167,7 @@ module _ {S : Type 0} (store : StoreWords S) (kind : DigestKind) (id : ChunkId) 
   -- ---- where others add to it too
 
   module _ (cached maps : List (Map (List ℕ))) (only : OthersAddOnly kind id.0 size (Some old) cached maps) (told : cached_in (Some old) ≡ Some cached) (held : map store.holds before.stores ≡ map Some maps) where
-    -- what was had it held at first, or a store holds it
+    -- what was obtained it held at first, or a store holds it
     pub had_shared : (got : Got) → IsWanted w (take got.size out) → Ends (Ok got) → SomeGives kind id.0 size cached ⊎ SomeGives kind id.0 size maps
     had_shared got right (inr from) = inr (from_stores maps held got right from)
     had_shared got right (inl from) =

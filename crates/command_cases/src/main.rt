@@ -17,7 +17,7 @@
 //!   `NAME:BYTES` is any file.
 //! - `failing-store NAME CALL..`: an empty folder, of which the calls of these numbers fail.
 //! - `server BYTES`: a connection to a server, on which these bytes come. `served NAME`, `served NAME LENGTH`: those of
-//!   a file, or its first so many, come besides.
+//!   a file, or the first LENGTH of them, come besides.
 //! - `client BYTES`: a client that sends these. `more BYTES`, `more-file NAME`: it sends these, or those of a file,
 //!   besides. Each run has all connections of the case, in their order.
 //! - `failing-listener CALL..`: the calls of the listener that fail.

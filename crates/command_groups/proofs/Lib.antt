@@ -8,3 +8,5 @@ pub mod Quiet
 pub mod Flat
 pub mod Opening
 pub mod Given
+pub mod LentChains
+pub mod Alike

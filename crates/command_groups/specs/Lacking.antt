@@ -22,8 +22,8 @@ use Rattle.store_group.specs.Groups.{said_of}
 abbrev pub group_said : Storage → Storage → List Location → Said
 group_said w v g = said_of (said_at w v) g
 
--- so many calls on the folder have failed, or its count stands at its greatest value; or so many on connections have,
--- or a reply of the server wasn't taken
+-- n calls on the folder have failed, or its count stands at its greatest value; or n on connections have, or
+-- a reply of the server wasn't taken
 abbrev pub RoseBy : ℕ → Storage → Storage → Location → Type 0
 RoseBy n w v (locations.Folder q) = raised (count_at w.disk.folder_counts q) n ≤ count_at v.disk.folder_counts q
 RoseBy n w v (locations.Http host port prefix) = (raised w.dial.faults n ≤ v.dial.faults)

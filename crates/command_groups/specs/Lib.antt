@@ -3,3 +3,4 @@ pub mod Opened
 pub mod Lacking
 pub mod Numbers
 pub mod Asking
+pub mod Chains

@@ -29,8 +29,9 @@ desync keeps images as chunks in a store, and an index of each image.
       print which chunks of a store are damaged, or remove them
   desync prune -s FOLDER -y INDEX..
       remove the chunks of a store that no index lists
-  desync chunk-server -s FOLDER -l HOST:PORT [-w] [-n WORKERS] [--digest KIND]
-      serve the chunks of a store over HTTP
+  desync chunk-server -s STORE.. [-c CACHE] [-e TIMES] -l HOST:PORT [-w]
+      [-n WORKERS] [--digest KIND]
+      serve the chunks of a store over HTTP, or with a cache those of stores
   desync index-server -s FOLDER -l HOST:PORT [-w]
       serve the indexes of a folder over HTTP
   desync demo [-n WORKERS] [--digest KIND] NUMBER SIZE
@@ -73,9 +74,9 @@ OUT.tmp-desync, which takes OUT's name once it is right; or with -k in place,
 and what OUT holds already is kept where it is right.
 
   -k, --in-place                write OUT in place
-  -s, --store STORE             a folder of chunks, an http URL where they lie,
-                                or several with | between that hold the same;
-                                1 to 16 in all, asked in order
+  -s, --store STORE             a folder of chunks, an http URL, or several
+                                with | between that hold the same; 1 to 16 in
+                                all, asked in order
   -e, --error-retry TIMES       how often a failed call is made again, 0 to 16;
                                 0 if not given
   -c, --cache CACHE             a folder of chunks that is asked before the
@@ -95,9 +96,9 @@ usage: desync cat -s STORE.. [-e TIMES] [-o OFFSET] [-l LENGTH] INDEX
 Prints the bytes of the image that INDEX lists from OFFSET on, at most LENGTH of
 them, without assembling the image.
 
-  -s, --store STORE             a folder of chunks, an http URL where they lie,
-                                or several with | between that hold the same;
-                                1 to 16 in all, asked in order
+  -s, --store STORE             a folder of chunks, an http URL, or several
+                                with | between that hold the same; 1 to 16 in
+                                all, asked in order
   -e, --error-retry TIMES       how often a failed call is made again, 0 to 16;
                                 0 if not given
   -o, --offset OFFSET           the bytes to leave out, 0 if not given; past the
@@ -140,9 +141,9 @@ Copies the chunks that each INDEX lists from the stores into a cache, index by
 index, up to the first that no store gives. What the cache holds already is left
 where it is right.
 
-  -s, --store STORE             a folder of chunks, an http URL where they lie,
-                                or several with | between that hold the same;
-                                1 to 16 in all, asked in order
+  -s, --store STORE             a folder of chunks, an http URL, or several
+                                with | between that hold the same; 1 to 16 in
+                                all, asked in order
   -e, --error-retry TIMES       how often a failed call is made again, 0 to 16;
                                 0 if not given
   -c, --cache CACHE             the folder that takes the chunks
@@ -169,9 +170,9 @@ Prints a line of JSON: the average, greatest and least size of chunks and the
 size of the image, in bytes, and the numbers of chunks in all, of different ones
 and, where stores are given, of those that some store has.
 
-  -s, --store STORE             a folder of chunks, an http URL where they lie,
-                                or several with | between that hold the same;
-                                0 to 16 in all, asked in order
+  -s, --store STORE             a folder of chunks, an http URL, or several
+                                with | between that hold the same; 0 to 16 in
+                                all, asked in order
   -e, --error-retry TIMES       how often a failed call is made again, 0 to 16;
                                 0 if not given
 
@@ -209,14 +210,16 @@ example: desync prune -s chunks -y disk.caibx
 
 /// The text of `chunk-server --help`.
 pub const CHUNK_SERVER: &str = "\
-usage: desync chunk-server -s FOLDER -l HOST:PORT [-w] [-n WORKERS]
-                           [--digest KIND]
+usage: desync chunk-server -s STORE.. [-c CACHE] [-e TIMES] -l HOST:PORT [-w]
+                           [-n WORKERS] [--digest KIND]
 
 Serves the chunks of the store over HTTP, many connections at once, until it is
 killed. What doesn't have a chunk's digest is neither given nor taken.
 Nobody is asked who they are: listen at localhost, or put a proxy in front.
 
-  -s, --store FOLDER            the store
+  -s, --store STORE             a folder of chunks; with -c as for `extract`
+  -c, --cache CACHE             as for `extract`; not with -w
+  -e, --error-retry TIMES       as for `extract`; only with -c
   -l, --listen HOST:PORT        the address; no HOST means all addresses
   -w, --writeable               take chunks too
   -n, --concurrency WORKERS     1: in turn; 2 to 32: a thread a connection

@@ -1,4 +1,4 @@
--- Indexes that are had one after the other.
+-- Indexes that are obtained one after the other.
 use Rattle.std.proofs.Common.{◌≡◌, ◌++◌, ◌∙◌, ℕ, List, [], ◌∷◌, length, Ok, Err, refl, sym, ap, inl, inr}
 use Rattle.std.proofs.lemmas.List.{append-nil, append_assoc}
 use Rattle.caibx_codec.specs.Listing.{Listing}
@@ -13,7 +13,7 @@ use Rattle.dsy_base.specs.Disk.{Output}
 abbrev pub round : Output → Storage → World
 round p w = world w.disk w.dial p
 
--- none is had
+-- none is obtained
 pub none_more : (names : List (List ℕ)) (n : ℕ) (w : Storage) (old : List Listing) → length names ≡ 0 → (ls : List Listing) × (old ≡ old ++ ls) × ((p : Output) → IndexesGot n names (round p w) (Ok ls) (round p w))
 none_more [] n w old none = ([], sym (append-nil old), λ p. (refl, refl))
 none_more (q ∷ names) n w old none = absurd (cc)

@@ -1,4 +1,4 @@
--- An index is had by the operand that names it: it is read from a file, or fetched from a server.
+-- An index is obtained by the operand that names it: it is read from a file, or fetched from a server.
 use Rattle.std.specs.Prelude.{◌≡◌, ℕ, List, [], ◌∷◌, Result, Ok, Err}
 use Rattle.caibx_codec.specs.Listing.{Listing}
 use Rattle.command_outcome.specs.declared.outcome.Outcome.{Outcome}

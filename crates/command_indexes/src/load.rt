@@ -85,8 +85,8 @@ fn load_each<F: Files, D: Dial>(
     load_each(alloc, files, dial, rest, items, indexes)
 }
 
-/// Loads the indexes of these names in their order, up to the first that isn't had, or with which they list more than
-/// 2^23 items together.
+/// Loads the indexes of these names in their order, up to the first that isn't obtained, or with which they list more
+/// than 2^23 items together.
 pub fn load_indexes<F: Files, D: Dial>(
     alloc: Global,
     files: &mut F,

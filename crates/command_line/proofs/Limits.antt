@@ -1,5 +1,5 @@
 -- The commands that words say keep the limits of the table of options, and each index has a place.
-use Rattle.std.proofs.Common.{◌≡◌, ◌<◌, ◌≤◌, ℕ, suc, All, not, ◌+◌, ◌*◌, ◌-◌, ◌&&◌, ◌||◌, Bool, true, false, List, [], ◌∷◌, length, get_or, map, sum_by, nat_lt, nat_le, ◌==◌, codes, if◌then◌else◌, Option, Some, None, unwrap_or, Result, Ok, Err, IfOk, refl, sym, ap, ap₂, subst, ◌∙◌, arith}
+use Rattle.std.proofs.Common.{◌≡◌, ◌<◌, ◌≤◌, ℕ, suc, All, not, ◌+◌, ◌*◌, ◌-◌, ◌&&◌, ◌||◌, Bool, true, false, List, [], ◌∷◌, length, get_or, map, sum_by, nat_lt, nat_le, ◌==◌, codes, if◌then◌else◌, Option, Some, None, option_map, unwrap_or, Result, Ok, Err, IfOk, refl, sym, ap, ap₂, subst, ◌∙◌, arith}
 use Rattle.std.specs.Char.{is_ascii_digit}
 use Rattle.std.proofs.lemmas.Bool.{cond-true, leb-true, lt-ltb, ltb-false, true≢false}
 use Rattle.std.proofs.lemmas.Option.{none-some}
@@ -7,8 +7,9 @@ use Rattle.std.proofs.lemmas.List.{length-map}
 use Rattle.std.proofs.lemmas.List.Elements.{All-from_get_or, All-map}
 use Rattle.std.proofs.lemmas.List.Splits.{length-slice_split}
 use Rattle.std.proofs.lemmas.List.Sums.{sum_by-cons}
-use Rattle.command_line.specs.CommandLine.{command_by, command_line, command_by_roles, command_or_help, command_with, complete, is_alone, number, operand, read_location, group_of, retries, stores, value, ReadsWords}
-use Rattle.command_line.specs.Judging.{demo_operand_refusal, index_refusal, is_empty, judged, lacks, missing_words, name_operand_refusal, name_refusal, operand_refusal, place_refusal, stores_named}
+use Rattle.command_line.specs.CommandLine.{command_by, command_line, command_by_roles, command_or_help, command_with, complete, is_alone, number, proxy, read_location, group_of, retries, stores, ReadsWords}
+use Rattle.command_line.specs.Judging.{demo_operand_refusal, index_refusal, is_empty, judged, name_operand_refusal, name_refusal, operand_refusal, place_refusal, stores_named, folder_fault, whole_fault}
+use Rattle.std.specs.Option.{option_or}
 use Rattle.command_words.specs.declared.command.Command.{Command}
 use Rattle.command_words.specs.declared.command.Command.TheVariants as said
 use Rattle.command_words.specs.declared.command.Location.{Location}
@@ -22,13 +23,13 @@ use Rattle.command_words.specs.declared.option_table.OptionKind.TheVariants as o
 use Rattle.command_words.specs.declared.option_table.Takes.{Takes}
 use Rattle.command_words.specs.declared.roles.Role.{Role}
 use Rattle.command_words.specs.declared.roles.Role.TheVariants as role
-use Rattle.command_words.specs.declared.usage.UsageWhy.{UsageWhy}
 use Rattle.command_words.specs.declared.usage.UsageWhy.TheVariants as why
 use Rattle.command_words.specs.declared.usage.WordsFault.{WordsFault}
 use Rattle.command_words.specs.Limits.{AreFewStores, Fits}
 use Rattle.command_words.specs.Locations.{location_of, parts_of, index_place_of, is_index_url, NamesIndex}
 use Rattle.command_words.specs.OptionTable.{times, names, folder_and_indexes, written_index, command_named, takes_groups, takes_of, takes_value, times_of, command_rows, option_rows}
-use Rattle.command_words.specs.Roles.{by_role, times_of_role, words_as, word_as}
+use Rattle.command_words.specs.Roles.{by_role, is_given, operand, times_of_role, value, words_as, word_as}
+use Rattle.command_words.specs.Whole.{lacks, why_not_whole}
 use Rattle.command_line.specs.Values.{ends_in_caibx, is_seed, number_in_word, number_up_to, with_digit, with_digits}
 use Rattle.command_line.proofs.Counts.{Passes, is_right, judged_right, named_right, operands_bounded, options_bounded, values_counted}
 use Rattle.command_line.proofs.Following.{roles_length}
@@ -42,6 +43,7 @@ record Rows : Type 0 where
   seeds_of_extract : times_of command.Extract option.Seed ≡ times 0 64
   stores_of_cache : times_of command.Cache option.Store ≡ times 1 16
   stores_of_cat : times_of command.Cat option.Store ≡ times 1 16
+  stores_of_chunk_server : times_of command.ChunkServer option.Store ≡ times 1 16
   names_of_make : takes_of command.Make ≡ written_index
   names_of_extract : takes_of command.Extract ≡ names 2 2 1
   names_of_cat : takes_of command.Cat ≡ names 1 1 1
@@ -55,6 +57,7 @@ record Rows : Type 0 where
   groups_of_cat : takes_groups command.Cat ≡ true
   groups_of_cache : takes_groups command.Cache ≡ true
   groups_of_info : takes_groups command.Info ≡ true
+  groups_of_chunk_server : takes_groups command.ChunkServer ≡ true
   store_takes : takes_value option.Store ≡ true
   seed_takes : takes_value option.Seed ≡ true
 
@@ -65,6 +68,7 @@ rows = record {
   seeds_of_extract = refl;
   stores_of_cache = refl;
   stores_of_cat = refl;
+  stores_of_chunk_server = refl;
   names_of_make = refl;
   names_of_extract = refl;
   names_of_cat = refl;
@@ -78,20 +82,21 @@ rows = record {
   groups_of_cat = refl;
   groups_of_cache = refl;
   groups_of_info = refl;
+  groups_of_chunk_server = refl;
   store_takes = refl;
   seed_takes = refl;
 }
 
 -- ---- what is missing once all words have passed
 
-has_enough : (store cache listen agreed few : Bool) → (if store || (cache || listen) then Some why.MissingOption else (if agreed then Some why.NeedsYes else (if few then Some why.Operands else None))) ≡ None
+has_enough : (store cache listen agreed few both : Bool) → (if store || (cache || listen) then Some why.MissingOption else (if agreed then Some why.NeedsYes else (if few then Some why.Operands else (if both then Some why.ReadOnly else None)))) ≡ None
     → (store ≡ false) × (few ≡ false)
-has_enough true cache listen agreed few e = absurd (none-some why.MissingOption (sym e))
-has_enough false true listen agreed few e = absurd (none-some why.MissingOption (sym e))
-has_enough false false true agreed few e = absurd (none-some why.MissingOption (sym e))
-has_enough false false false true few e = absurd (none-some why.NeedsYes (sym e))
-has_enough false false false false true e = absurd (none-some why.Operands (sym e))
-has_enough false false false false false e = (refl, refl)
+has_enough true cache listen agreed few both e = absurd (none-some why.MissingOption (sym e))
+has_enough false true listen agreed few both e = absurd (none-some why.MissingOption (sym e))
+has_enough false false true agreed few both e = absurd (none-some why.MissingOption (sym e))
+has_enough false false false true few both e = absurd (none-some why.NeedsYes (sym e))
+has_enough false false false false true both e = absurd (none-some why.Operands (sym e))
+has_enough false false false false false both e = (refl, refl)
 
 -- ---- how many words have each role
 
@@ -105,9 +110,10 @@ record Counts (k : CommandKind) (roles : List Role) (words : List (List ℕ)) : 
   values_pass : (o : OptionKind) (i : ℕ) → i < times_of_role (role.Value o) roles → PassesAs k o (word_as (role.Value o) i roles words)
   few : takes_groups k ≡ true → stores_named (by_role roles words) ≤ 16
 
-counts : (k : CommandKind) (words : List (List ℕ)) (roles : List Role) → Passes k words roles → missing_words k roles ≡ None → Counts k roles words
+counts : (k : CommandKind) (words : List (List ℕ)) (roles : List Role) → Passes k words roles → why_not_whole k roles ≡ None → Counts k roles words
 counts k words roles p none =
-    let enough = has_enough (lacks k roles option.Store) (lacks k roles option.Cache) (lacks k roles option.Listen) (lacks k roles option.Yes) (nat_lt (times_of_role role.Operand roles) (takes_of k).operands.least) none in
+    let few = nat_lt (times_of_role role.Operand roles) (takes_of k).operands.least in
+    let enough = has_enough (lacks k roles option.Store) (lacks k roles option.Cache) (lacks k roles option.Listen) (lacks k roles option.Yes) few (is_given option.Cache roles && is_given option.Writable roles) none in
     let values : (o : OptionKind) → takes_value o ≡ true → times_of_role (role.Value o) roles ≡ times_of_role (role.Given o) roles
     = λ o takes. subst (λ r. times_of_role (role.Value o) r ≡ times_of_role (role.Given o) r) (sym p.roles_are) (values_counted k words o takes p.pass p.ended) in
     record {
@@ -259,6 +265,10 @@ index_of_make : (roles : List Role) (words : List (List ℕ)) → Counts command
 unfolding Names
 index_of_make roles words c = index_at command.Make roles words written_index 0 c rows.names_of_make refl (omega arith) (omega (arith, c.operands_least, ap (λ t. t.operands.least) rows.names_of_make))
 
+either_fits : (b : Bool) (c d : Command) → Fits c → Fits d → Fits (if b then c else d)
+either_fits true c d one other = one
+either_fits false c d one other = other
+
 kept : (k : CommandKind) (roles : List Role) (words : List (List ℕ)) → Counts k roles words → Fits (command_by_roles k (by_role roles words))
 kept command.Make roles words c = index_of_make roles words c
 kept command.Extract roles words c =
@@ -296,7 +306,13 @@ kept command.Prune roles words c = (
   omega (arith, c.as_many role.Operand, c.operands_greatest (ap (λ t. t.takes_numbers) rows.names_of_prune), ap (λ t. t.operands.greatest) rows.names_of_prune),
   indexes_all command.Prune roles words (folder_and_indexes 1 64) c rows.names_of_prune refl refl (omega arith),
 )
-kept command.ChunkServer roles words c = tt
+kept command.ChunkServer roles words c =
+    let p = by_role roles words in
+    let stores = stores_counted command.ChunkServer roles words c in
+    either_fits (is_given option.Cache roles) (proxy p) _ (
+      omega (arith, stores, c.least, ap (λ t. t.least) rows.stores_of_chunk_server),
+      few_stores command.ChunkServer roles words c rows.groups_of_chunk_server,
+    ) tt
 kept command.IndexServer roles words c = tt
 kept command.Demo roles words c = number_bounded 536870912 (operand 1 (by_role roles words))
 
@@ -305,13 +321,19 @@ kept command.Demo roles words c = number_bounded 536870912 (operand 1 (by_role r
 is_ok : (r : Result Command WordsFault) (x y : Command) → r ≡ Ok x → r ≡ Ok y → x ≡ y
 is_ok r x y a b = cc
 
-complete_fits : (missed : Option UsageWhy) (place : ℕ) (c d : Command) → (missed ≡ None → Fits c) → complete missed place c ≡ Ok d → Fits d
-complete_fits (Some y) place c d fits e = absurd cc
-complete_fits None place c d fits e = subst Fits (is_ok (Ok c) c d refl e) (fits refl)
+complete_fits : (f : Option WordsFault) (c d : Command) → (f ≡ None → Fits c) → complete f c ≡ Ok d → Fits d
+complete_fits (Some x) c d fits e = absurd cc
+complete_fits None c d fits e = subst Fits (is_ok (Ok c) c d refl e) (fits refl)
+
+-- where words are no fault as a whole, nothing is missing
+none_missing : {X Y : Type 0} (first : Option X) (rest : Option Y) (f : Y → X) → option_or first (option_map f rest) ≡ None → rest ≡ None
+none_missing (Some x) rest f e = absurd cc
+none_missing None (Some y) f e = absurd cc
+none_missing None None f e = refl
 
 by_fits : (k : CommandKind) (words : List (List ℕ)) (c : Command) (r : Result (List Role) WordsFault) → judged k words ≡ r → command_by k words r ≡ Ok c → Fits c
 by_fits k words c (Err f) is e = absurd cc
-by_fits k words c (Ok roles) is e = complete_fits (missing_words k roles) _ _ c (λ none. kept k roles words (counts k words roles (judged_right k words roles is) none)) e
+by_fits k words c (Ok roles) is e = complete_fits (whole_fault k (by_role roles words)) _ c (λ none. kept k roles words (counts k words roles (judged_right k words roles is) (none_missing (folder_fault k (by_role roles words)) (why_not_whole k roles) _ none))) e
 
 if_fits : (b : Bool) (d c : Command) (rest : Result Command WordsFault) → Fits d → (rest ≡ Ok c → Fits c) → (if b then Ok d else rest) ≡ Ok c → Fits c
 if_fits true d c rest now later e = subst Fits (is_ok (Ok d) d c refl e) now

@@ -75,7 +75,7 @@ all_hold : (k : CommandKind) (words : List (List ℕ)) (r : Role) (P : ℕ → L
 all_hold k words r P gives = along_all k words (λ p. Hold r P p.roles p.words) (λ i lt. absurd (omega (arith, lt)))
     (λ before w ok held. let roles = roles_of k before in pushed r (role_of k roles w) P roles before w (roles_length k before) held (λ same. gives before w same ok))
 
--- each operand passes as one that has so many before it
+-- each operand passes as one that has this many before it
 pub operands_pass : (k : CommandKind) (words : List (List ℕ)) → Pass k words (length words) → Hold role.Operand (λ i w. operand_refusal k i w ≡ None) (roles_of k words) words
 operands_pass k words = all_hold k words role.Operand (λ i w. operand_refusal k i w ≡ None)
     (λ before w same ok. subst (λ q. refusal_of k (words_by_role k before) q w ≡ None) (operand_is (role_of k (roles_of k before) w) same) ok)

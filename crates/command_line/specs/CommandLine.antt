@@ -1,10 +1,10 @@
 -- What the words of a command line say. A word is its bytes, and places count from the first word, the command, as 0.
-use Rattle.std.specs.Prelude.{ℕ, ◌+◌, ◌==◌, ◌&&◌, Bool, List, [], ◌∷◌, length, map, codes, Option, Some, None}
-use Rattle.std.specs.Prelude.{unwrap_or, Result, Ok, Err, IfOk, ◌≡◌, if◌then◌else◌, nat_lt, slice_index_or}
+use Rattle.std.specs.Prelude.{ℕ, ◌==◌, ◌&&◌, Bool, List, [], ◌∷◌, length, map, codes, Option, Some, None, unwrap_or}
+use Rattle.std.specs.Prelude.{Result, Ok, Err, IfOk, ◌≡◌, if◌then◌else◌, slice_index_or}
 use Rattle.std.specs.Str.{bytes_eq}
 use Rattle.chunk_store.specs.declared.id.DigestKind.{DigestKind}
 use Rattle.chunk_store.specs.declared.id.DigestKind.TheVariants as kinds
-use Rattle.command_line.specs.Judging.{judged, missing_words, AnswersBy}
+use Rattle.command_line.specs.Judging.{judged, whole_fault, AnswersBy}
 use Rattle.command_words.specs.declared.command.Command.{Command}
 use Rattle.command_words.specs.declared.command.Command.TheVariants as said
 use Rattle.command_words.specs.declared.command.Location.{Location}
@@ -12,30 +12,19 @@ use Rattle.command_words.specs.declared.command.Location.TheVariants as location
 use Rattle.command_words.specs.declared.location.NoLocation.{NoLocation}
 use Rattle.command_words.specs.declared.option_table.CommandKind.{CommandKind}
 use Rattle.command_words.specs.declared.option_table.CommandKind.TheVariants as command
-use Rattle.command_words.specs.declared.option_table.OptionKind.{OptionKind}
 use Rattle.command_words.specs.declared.option_table.OptionKind.TheVariants as option
 use Rattle.command_words.specs.declared.roles.Role.{Role}
 use Rattle.command_words.specs.declared.roles.Role.TheVariants as role
-use Rattle.command_words.specs.declared.usage.UsageWhy.{UsageWhy}
 use Rattle.command_words.specs.declared.usage.UsageWhy.TheVariants as why
 use Rattle.command_words.specs.declared.usage.WordsFault.{WordsFault}
 use Rattle.command_words.specs.declared.usage.WordsFault.TheVariants as fault
 use Rattle.command_words.specs.Locations.{location_of, parts_of}
 use Rattle.command_words.specs.OptionTable.{command_named}
-use Rattle.command_words.specs.Roles.{WordsByRole, by_role, times_of_role, words_as, word_as}
+use Rattle.command_words.specs.Roles.{WordsByRole, by_role, words_as, operand, value, is_given}
 use Rattle.command_line.specs.Values.{number_in_word, workers_of, retries_of, byte_count_of, sizes_of, listen_of}
 use Rattle.command_line.specs.Values.{kind_in_word}
 
 -- ---- what words that have passed say, by their roles
-
-abbrev pub operand : ℕ → WordsByRole → List ℕ
-operand k p = word_as role.Operand k p.roles p.words
-
-abbrev pub value : OptionKind → WordsByRole → List ℕ
-value o p = word_as (role.Value o) 0 p.roles p.words
-
-abbrev pub is_given : OptionKind → WordsByRole → Bool
-is_given o p = nat_lt 0 (times_of_role (role.Given o) p.roles)
 
 abbrev pub read_location : Result Location NoLocation → Location
 read_location (Ok l) = l
@@ -56,7 +45,7 @@ abbrev pub retries : WordsByRole → ℕ
 retries p = unwrap_or (retries_of (value option.Retries p)) 0
 
 abbrev pub cache : WordsByRole → Option (List ℕ)
-cache p = if is_given option.Cache p then Some (value option.Cache p) else None
+cache p = if is_given option.Cache p.roles then Some (value option.Cache p) else None
 
 -- 10 workers where no number is given
 abbrev pub workers : WordsByRole → ℕ
@@ -84,11 +73,16 @@ size p = byte_count_of (value option.Length p)
 abbrev pub number : ℕ → List ℕ → ℕ
 number most w = unwrap_or (number_in_word 0 most w) 0
 
+-- a server with a cache before its stores
+abbrev pub proxy : WordsByRole → Command
+proxy p =
+    said.Proxy (stores p) (retries p) (value option.Cache p) (address p).0 (address p).1 (workers p) (digest p)
+
 abbrev pub command_by_roles : CommandKind → WordsByRole → Command
 command_by_roles command.Make p = said.Make (store p) (sizes p) (workers p) (digest p) (operand 0 p) (operand 1 p)
 command_by_roles command.Extract p =
     said.Extract (stores p) (retries p) (words_as (role.Value option.Seed) p.roles p.words) (cache p)
-    (is_given option.InPlace p) (workers p) (operand 0 p) (operand 1 p)
+    (is_given option.InPlace p.roles) (workers p) (operand 0 p) (operand 1 p)
 command_by_roles command.Cat p = said.Cat (stores p) (retries p) (offset p) (size p) (operand 0 p)
 command_by_roles command.VerifyIndex p = said.VerifyIndex (workers p) (operand 0 p) (operand 1 p)
 command_by_roles command.Chop p = said.Chop (store p) (workers p) (operand 0 p) (operand 1 p)
@@ -97,13 +91,14 @@ command_by_roles command.Cache p =
 command_by_roles command.ListChunks p = said.ListChunks (operand 0 p)
 command_by_roles command.Info p = said.Info (stores p) (retries p) (operand 0 p)
 command_by_roles command.Verify p =
-    said.Verify (value option.Store p) (is_given option.Repair p) (workers p) (digest p)
+    said.Verify (value option.Store p) (is_given option.Repair p.roles) (workers p) (digest p)
 command_by_roles command.Prune p = said.Prune (value option.Store p) (words_as role.Operand p.roles p.words)
 command_by_roles command.ChunkServer p =
-    said.ChunkServer (value option.Store p) (address p).0 (address p).1 (is_given option.Writable p) (workers p)
-    (digest p)
+    if is_given option.Cache p.roles then proxy p
+    else said.ChunkServer (value option.Store p) (address p).0 (address p).1 (is_given option.Writable p.roles)
+    (workers p) (digest p)
 command_by_roles command.IndexServer p =
-    said.IndexServer (value option.Store p) (address p).0 (address p).1 (is_given option.Writable p)
+    said.IndexServer (value option.Store p) (address p).0 (address p).1 (is_given option.Writable p.roles)
 command_by_roles command.Demo p =
     said.Demo (number 18446744073709551615 (operand 0 p)) (number 536870912 (operand 1 p)) (workers p) (digest p)
 
@@ -113,15 +108,15 @@ Says k p result = IfOk result (λ c. c ≡ command_by_roles k p)
 
 -- ---- all words
 
--- the command, unless something is missing at the end
-abbrev pub complete : Option UsageWhy → ℕ → Command → Result Command WordsFault
-complete (Some y) place c = Err (fault.Usage place y)
-complete None place c = Ok c
+-- the command, unless the words are no whole one
+abbrev pub complete : Option WordsFault → Command → Result Command WordsFault
+complete (Some e) c = Err e
+complete None c = Ok c
 
 abbrev pub command_by : CommandKind → List (List ℕ) → Result (List Role) WordsFault → Result Command WordsFault
 command_by k words (Err e) = Err e
-command_by k words (Ok roles) = complete (missing_words k roles) (length words + 1)
-    (command_by_roles k (by_role roles words))
+command_by k words (Ok roles) =
+    complete (whole_fault k (by_role roles words)) (command_by_roles k (by_role roles words))
 
 -- the words after a command
 abbrev pub command_with : CommandKind → List (List ℕ) → Result Command WordsFault

@@ -1,5 +1,5 @@
 -- How the words of a command are judged. The words are those after the command; places count the command too.
-use Rattle.std.specs.Prelude.{◌≡◌, ℕ, ◌+◌, ◌==◌, ◌||◌, Bool, false, not, List, [], ◌∷◌, length, sum_by, find, take}
+use Rattle.std.specs.Prelude.{◌≡◌, ℕ, ◌+◌, ◌==◌, ◌&&◌, Bool, false, not, List, [], ◌∷◌, length, sum_by, find, take}
 use Rattle.std.specs.Prelude.{slice_index_or, Option, Some, None, is_some, option_map, Result, Ok, Err}
 use Rattle.std.specs.Prelude.{if◌then◌else◌, nat_lt}
 use Rattle.std.specs.List.{list_any, range_with_len}
@@ -21,9 +21,11 @@ use Rattle.command_words.specs.declared.usage.UsageWhy.{UsageWhy}
 use Rattle.command_words.specs.declared.usage.UsageWhy.TheVariants as why
 use Rattle.command_words.specs.declared.usage.WordsFault.{WordsFault}
 use Rattle.command_words.specs.declared.usage.WordsFault.TheVariants as fault
-use Rattle.command_words.specs.Locations.{location_of, parts_of, is_index_url, index_place_of}
+use Rattle.command_words.specs.Locations.{location_of, parts_of, names_folder, is_index_url, index_place_of}
 use Rattle.command_words.specs.OptionTable.{takes_of, takes_groups, times_of}
-use Rattle.command_words.specs.Roles.{WordsByRole, by_role, awaited, role_of, roles_of, times_of_role, words_as}
+use Rattle.command_words.specs.Roles.{WordsByRole, by_role, awaited, role_of, roles_of, times_of_role, place_of_role}
+use Rattle.command_words.specs.Roles.{words_as, value, is_given}
+use Rattle.command_words.specs.Whole.{first_surplus, why_not_whole}
 use Rattle.command_line.specs.Values.{number_in_word, workers_of, retries_of, byte_count_of, sizes_of, listen_of}
 use Rattle.command_line.specs.Values.{is_seed, kind_in_word}
 
@@ -161,18 +163,25 @@ first_word_fault k words = fault_by k words (first_refused k words)
 abbrev pub judged : CommandKind → List (List ℕ) → Result (List Role) WordsFault
 judged k words = elim (first_word_fault k words) [ Some e ↦ Err e | None ↦ Ok (roles_of k words) ]
 
--- the option stands less often than the command needs it
-abbrev pub lacks : CommandKind → List Role → OptionKind → Bool
-lacks k roles o = nat_lt (times_of_role (role.Given o) roles) (times_of k o).least
+-- ---- all words as a whole, once each has passed
 
--- what is missing once all words have passed
-abbrev pub missing_words : CommandKind → List Role → Option UsageWhy
-missing_words k roles =
-    if lacks k roles option.Store || (lacks k roles option.Cache || lacks k roles option.Listen)
-    then Some why.MissingOption
-    else (if lacks k roles option.Yes then Some why.NeedsYes
-    else (if nat_lt (times_of_role role.Operand roles) (takes_of k).operands.least then Some why.Operands
-    else None))
+-- why no folder stands alone: an option that doesn't stand beside one, at its place, else a store that is none
+abbrev pub not_folder : Option ℕ → WordsByRole → Option WordsFault
+not_folder (Some i) p = Some (fault.Usage (i + 1) why.TooMany)
+not_folder None p =
+    if names_folder (value option.Store p) then None
+    else option_map (λ i. fault.Usage (i + 1) why.NeedsFolder) (place_of_role (role.Value option.Store) p.roles)
+
+-- so, where the command needs a folder and there is no cache
+abbrev pub folder_fault : CommandKind → WordsByRole → Option WordsFault
+folder_fault k p =
+    if (takes_of k).needs_folder && not (is_given option.Cache p.roles) then not_folder (first_surplus p.roles) p
+    else None
+
+-- why words that have passed are no whole command
+abbrev pub whole_fault : CommandKind → WordsByRole → Option WordsFault
+whole_fault k p =
+    option_or (folder_fault k p) (option_map (fault.Usage (length p.words + 1)) (why_not_whole k p.roles))
 
 -- ---- what the functions may answer: want of memory is free
 

@@ -35,6 +35,14 @@ impl<'a> CheckedWords<'a> {
         CheckedWords { roles, words }
     }
 
+    /// The roles of the words.
+    pub fn roles(&self) -> &'a [Role]
+        ensures value { result.now ≡ self.now.roles }
+        ensures size { length result.now ≡ length self.now.words }
+    {
+        self.roles
+    }
+
     /// How many words have the role.
     pub fn count_of(&self, role: Role) -> usize
         ensures value { result ≡ times_of_role role self.now.roles }

@@ -8,7 +8,7 @@ ghost use Rattle.command_words.specs.Limits.{Fits};
 ghost use Rattle.command_words.specs.OptionTable.{command_named};
 
 use crate::checked_words::CheckedWords;
-use crate::judge::{judged, missing};
+use crate::judge::{judged, whole_fault};
 use command_words::command::Command;
 use command_words::option_table::{CommandKind, command_named};
 use command_words::roles::word;
@@ -28,11 +28,10 @@ fn read_with(alloc: Global, kind: CommandKind, words: &[String]) -> Result<Comma
     ensures { AnswersBy (λ c. c) (command_with kind (map string_bytes words.now)) result }
 {
     let roles = judged(alloc, kind, words)?;
-    if let Some(why) = missing(kind, roles.as_slice()) {
-        let place = words.len() as u64 + 1;
-        return Err(WordsFault::Usage { place, why });
-    }
     let checked = CheckedWords::of(roles.as_slice(), words);
+    if let Some(fault) = whole_fault(kind, &checked) {
+        return Err(fault);
+    }
     checked
         .command_of(alloc, kind)
         .map_err(|_| WordsFault::Memory)

@@ -6,17 +6,18 @@ ghost use Rattle.std.specs.Prelude.{None, IfOk};
 ghost use Rattle.command_line.specs.Judging.{RefusesWords, AnswersBy, number_refusal, unless, is_empty, stores_named};
 ghost use Rattle.command_line.specs.Judging.{name_refusal, value_refusal, index_refusal, named_refusal};
 ghost use Rattle.command_line.specs.Judging.{name_operand_refusal, demo_operand_refusal, place_refusal};
-ghost use Rattle.command_line.specs.Judging.{operand_refusal, refusal_of, fault_at, judged, lacks, missing_words};
+ghost use Rattle.command_line.specs.Judging.{operand_refusal, refusal_of, fault_at, judged, folder_fault, whole_fault};
 ghost use Rattle.command_words.specs.Locations.{index_place_of};
 ghost use Rattle.command_words.specs.OptionTable.{takes_of, times_of};
 
 use crate::checked_words::CheckedWords;
 use crate::locations::judge_store;
 use crate::values::{byte_count, digest, is_seed, listen, number, retries, sizes, workers};
-use command_words::location::{NoLocation, is_index_url, read_index_place};
+use command_words::location::{NoLocation, is_index_url, names_folder, read_index_place};
 use command_words::option_table::{CommandKind, OptionKind, Takes};
-use command_words::roles::{Role, awaited, count_of, role_of, word};
+use command_words::roles::{Role, awaited, is_given, place_of, role_of, word};
 use command_words::usage::{UsageWhy, WordsFault};
+use command_words::whole::{first_surplus, why_not_whole};
 use std::alloc::Global;
 
 /// Why a word is refused.
@@ -216,28 +217,31 @@ pub fn judged(alloc: Global, kind: CommandKind, words: &[String]) -> Result<Vec<
     Ok(roles)
 }
 
-// Whether the option stands less often than the command needs it.
-fn lacks(kind: CommandKind, roles: &[Role], option: OptionKind) -> bool
-    ensures { result ≡ lacks kind roles.now option }
+// Why the one store isn't a folder, where it has to be: the command needs one, and there is no cache.
+fn folder_fault(kind: CommandKind, words: &CheckedWords<'_>) -> Option<WordsFault>
+    ensures { result ≡ folder_fault kind words.now }
 {
-    count_of(Role::Given(option), roles) < kind.times_of(option).least
+    if !kind.takes().needs_folder || is_given(OptionKind::Cache, words.roles()) {
+        return None;
+    }
+    if let Some(place) = first_surplus(words.roles()) {
+        return Some(fault_at(place as u64 + 1, Refusal::Why(UsageWhy::TooMany)));
+    }
+    if names_folder(words.value(OptionKind::Store)) {
+        return None;
+    }
+    let place = place_of(Role::Value(OptionKind::Store), words.roles())?;
+    Some(fault_at(place as u64 + 1, Refusal::Why(UsageWhy::NeedsFolder)))
 }
 
-/// What is missing once all words have passed.
-pub fn missing(kind: CommandKind, roles: &[Role]) -> Option<UsageWhy>
-    ensures { result ≡ missing_words kind roles.now }
+/// Why words that have passed are no whole command.
+pub fn whole_fault(kind: CommandKind, words: &CheckedWords<'_>) -> Option<WordsFault>
+    requires { length words.now.words + 1 < 2 ^ 64 }
+    ensures { result ≡ whole_fault kind words.now }
 {
-    if lacks(kind, roles, OptionKind::Store)
-        || lacks(kind, roles, OptionKind::Cache)
-        || lacks(kind, roles, OptionKind::Listen)
-    {
-        return Some(UsageWhy::MissingOption);
+    if let Some(fault) = folder_fault(kind, words) {
+        return Some(fault);
     }
-    if lacks(kind, roles, OptionKind::Yes) {
-        return Some(UsageWhy::NeedsYes);
-    }
-    if count_of(Role::Operand, roles) < kind.takes().operands.least {
-        return Some(UsageWhy::Operands);
-    }
-    None
+    let why = why_not_whole(kind, words.roles())?;
+    Some(fault_at(words.roles().len() as u64 + 1, Refusal::Why(why)))
 }

@@ -4,6 +4,7 @@ ghost use Rattle.std.specs.Prelude.{◌≡◌, map, IfOk};
 ghost use Rattle.command_line.specs.CommandLine as line;
 ghost use Rattle.command_line.specs.CommandLine.{Says};
 ghost use Rattle.command_words.specs.Locations.{location_of};
+ghost use Rattle.command_words.specs.Roles.{operand, value};
 
 use crate::checked_words::CheckedWords;
 use crate::judge::GREATEST_DEMO;
@@ -12,7 +13,7 @@ use chunk_store::id::DigestKind;
 use command_words::command::{Command, Groups, Location, Locations};
 use command_words::location::{parts, read_location};
 use command_words::option_table::{CommandKind, OptionKind};
-use command_words::roles::Role;
+use command_words::roles::{Role, is_given};
 use dsy_base::name::Name;
 use std::alloc::{AllocError, Global};
 
@@ -53,40 +54,33 @@ fn checked_group(alloc: Global, word: &str) -> Result<Locations, AllocError>
 }
 
 impl<'a> CheckedWords<'a> {
-    // The value of an option.
-    fn value(&self, option: OptionKind) -> &'a str
-        ensures { result.now ≡ line.value option self.now }
+    /// The value of an option, or the empty word.
+    pub fn value(&self, option: OptionKind) -> &'a str
+        ensures { result.now ≡ value option self.now }
     {
         self.word_as(Role::Value(option), 0)
     }
 
     // The value of an option as a name.
     fn named(&self, alloc: Global, option: OptionKind) -> Result<Name, AllocError>
-        ensures { IfOk result (λ n. n ≡ line.value option self.now) }
+        ensures { IfOk result (λ n. n ≡ value option self.now) }
     {
         Name::of(alloc, self.value(option))
     }
 
     // An operand as a name.
     fn operand(&self, alloc: Global, place: usize) -> Result<Name, AllocError>
-        ensures { IfOk result (λ n. n ≡ line.operand place self.now) }
+        ensures { IfOk result (λ n. n ≡ operand place self.now) }
     {
         Name::of(alloc, self.word_as(Role::Operand, place))
     }
 
     // An operand as a number.
     fn number(&self, most: u64, place: usize) -> u64
-        ensures { result ≡ line.number most (line.operand place self.now) }
+        ensures { result ≡ line.number most (operand place self.now) }
     {
         let word = self.word_as(Role::Operand, place);
         values::number(0, most, word.as_bytes()).unwrap_or(0)
-    }
-
-    // Whether an option without a value is given.
-    fn is_given(&self, option: OptionKind) -> bool
-        ensures { result ≡ line.is_given option self.now }
-    {
-        self.count_of(Role::Given(option)) > 0
     }
 
     // The one location.
@@ -120,7 +114,7 @@ impl<'a> CheckedWords<'a> {
     fn cache(&self, alloc: Global) -> Result<Option<Name>, AllocError>
         ensures { IfOk result (λ c. c ≡ line.cache self.now) }
     {
-        if self.is_given(OptionKind::Cache) {
+        if is_given(OptionKind::Cache, self.roles()) {
             Ok(Some(self.named(alloc, OptionKind::Cache)?))
         } else {
             Ok(None)
@@ -190,7 +184,7 @@ impl<'a> CheckedWords<'a> {
             retries: self.retries(),
             seeds: self.names_as(alloc, Role::Value(OptionKind::Seed))?,
             cache: self.cache(alloc)?,
-            in_place: self.is_given(OptionKind::InPlace),
+            in_place: is_given(OptionKind::InPlace, self.roles()),
             workers: self.workers(),
             index: self.operand(alloc, 0)?,
             target: self.operand(alloc, 1)?,
@@ -232,15 +226,34 @@ impl<'a> CheckedWords<'a> {
         })
     }
 
+    // A server with a cache before its stores.
+    fn proxy(&self, alloc: Global) -> Result<Command, AllocError>
+        ensures { IfOk result (λ c. c ≡ line.proxy self.now) }
+    {
+        let (host, port) = self.address();
+        Ok(Command::Proxy {
+            stores: self.stores(alloc)?,
+            retries: self.retries(),
+            cache: self.named(alloc, OptionKind::Cache)?,
+            host: Name::of(alloc, host)?,
+            port,
+            workers: self.workers(),
+            digest: self.digest(),
+        })
+    }
+
     fn chunk_server(&self, alloc: Global) -> Result<Command, AllocError>
         ensures { Says CommandKind.ChunkServer self.now result }
     {
+        if is_given(OptionKind::Cache, self.roles()) {
+            return self.proxy(alloc);
+        }
         let (host, port) = self.address();
         Ok(Command::ChunkServer {
             store: self.named(alloc, OptionKind::Store)?,
             host: Name::of(alloc, host)?,
             port,
-            writable: self.is_given(OptionKind::Writable),
+            writable: is_given(OptionKind::Writable, self.roles()),
             workers: self.workers(),
             digest: self.digest(),
         })
@@ -254,7 +267,7 @@ impl<'a> CheckedWords<'a> {
             store: self.named(alloc, OptionKind::Store)?,
             host: Name::of(alloc, host)?,
             port,
-            writable: self.is_given(OptionKind::Writable),
+            writable: is_given(OptionKind::Writable, self.roles()),
         })
     }
 
@@ -294,7 +307,7 @@ impl<'a> CheckedWords<'a> {
             }),
             CommandKind::Verify => Ok(Command::Verify {
                 store: self.named(alloc, OptionKind::Store)?,
-                repair: self.is_given(OptionKind::Repair),
+                repair: is_given(OptionKind::Repair, self.roles()),
                 workers: self.workers(),
                 digest: self.digest(),
             }),

@@ -30,6 +30,7 @@ why_text usage.BadDigest = codes "BadDigest"
 why_text usage.MissingOption = codes "MissingOption"
 why_text usage.NeedsYes = codes "NeedsYes"
 why_text usage.Operands = codes "Operands"
+why_text usage.ReadOnly = codes "ReadOnly"
 
 -- why images can't be cut by the sizes: the variant's name
 abbrev pub size_text : SizeFault → List ℕ

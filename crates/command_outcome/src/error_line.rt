@@ -42,6 +42,7 @@ fn why_text(why: UsageWhy) -> &'static str
         UsageWhy::MissingOption => "MissingOption",
         UsageWhy::NeedsYes => "NeedsYes",
         UsageWhy::Operands => "Operands",
+        UsageWhy::ReadOnly => "ReadOnly",
     }
 }
 

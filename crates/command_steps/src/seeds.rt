@@ -35,7 +35,7 @@ pub fn image_name(index: &str) -> &str
     }
 }
 
-/// Puts an index to others, which list so many items. Answers how many they list with it, unless these are more than
+/// Puts an index to others, which list this many items. Answers how many they list with it, unless these are more than
 /// 2^23.
 pub fn add_index(index: Index, items: usize, indexes: &mut Vec<Index>) -> Result<usize, Outcome>
     requires { items ≤ seed_item_limit }

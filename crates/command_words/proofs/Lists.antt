@@ -1,7 +1,8 @@
--- The words of a list of texts, and those of one role.
-use Rattle.std.proofs.Common.{◌≡◌, ℕ, zero, suc, ◌+◌, ◌<◌, ◌≤◌, List, [], ◌∷◌, length, get_or, map, drop, String, string_bytes, sym, ap, ap₂, ◌∙◌, arith, eq-eqb, ne_eqb}
+-- The words of a list of texts, those of one role, and the first that passes a test.
+use Rattle.std.proofs.Common.{◌≡◌, ℕ, zero, suc, ◌+◌, ◌-◌, ◌<◌, ◌≤◌, Bool, if◌then◌else◌, Some, None, find, List, [], ◌∷◌, length, get_or, map, drop, String, string_bytes, sym, ap, ap₂, ◌∙◌, arith, eq-eqb, ne_eqb}
 use Rattle.std.proofs.lemmas.Bool.{cond-true, cond-false}
 use Rattle.std.proofs.lemmas.List.{drop_more, at_drop_all}
+use Rattle.std.specs.List.{range_with_len}
 use Rattle.command_words.specs.Roles.{words_as, role_number}
 use Rattle.command_words.specs.declared.roles.Role.{Role}
 
@@ -34,3 +35,16 @@ words_none r roles words i le = at_drop_all (λ rest. words_as r rest (drop i wo
 -- the later place among all is the place before it among the others
 pub skip_one : (all rest : List (List ℕ)) (w : List ℕ) (n m : ℕ) → all ≡ w ∷ rest → n ≡ suc m → get_or rest m [] ≡ get_or all n []
 skip_one all rest w n m e h = sym (ap₂ (λ l k. get_or l k []) e h)
+
+-- ---- the first number that passes a test
+
+-- the first number decides, or those after it
+pub find_from : (p : ℕ → Bool) (i n : ℕ) → i < n → find p (range_with_len i (n - i)) ≡ (if p i then Some i else find p (range_with_len (i + 1) (n - (i + 1))))
+find_from p i n lt =
+    let m : n - i ≡ suc (n - (i + 1)) = omega (arith, lt) in
+    ap (λ k. find p (range_with_len i k)) m
+
+pub find_ended : (p : ℕ → Bool) (i n : ℕ) → n ≤ i → find p (range_with_len i (n - i)) ≡ None
+find_ended p i n le =
+    let m : n - i ≡ 0 = omega (arith, le) in
+    ap (λ k. find p (range_with_len i k)) m

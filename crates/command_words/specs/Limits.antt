@@ -27,5 +27,6 @@ Fits (said.Cache stores retries cache workers indexes) =
 Fits (said.ListChunks index) = NamesIndex index
 Fits (said.Info stores retries index) = AreFewStores stores retries × NamesIndex index
 Fits (said.Prune store indexes) = (1 ≤ length indexes) × (length indexes ≤ 64) × All NamesIndex indexes
+Fits (said.Proxy stores retries cache host port workers digest) = (1 ≤ length stores) × AreFewStores stores retries
 Fits (said.Demo number size workers digest) = size ≤ 536870912
 Fits other = Unit {0}

@@ -65,6 +65,10 @@ location_of w =
 abbrev pub parts_of : List ℕ → List (List ℕ)
 parts_of w = slice_split (λ c. c == 124) w
 
+-- the word names one folder: it is no group, and no URL
+abbrev pub names_folder : List ℕ → Bool
+names_folder w = not (list_any (λ c. c == 124) w) && not (contains_scheme w)
+
 -- an index of this name is asked for over HTTP, and is no file
 abbrev pub is_index_url : List ℕ → Bool
 is_index_url w = contains_scheme w

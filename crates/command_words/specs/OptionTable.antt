@@ -50,7 +50,7 @@ abbrev pub written_index : Takes
 written_index =
     record { operands = times 2 2; indexes = 1; writes_index = true; needs_folder = false; takes_numbers = false }
 
--- a store that has to be a folder, and this many names of indexes
+-- a store that has to be a folder, unless there is a cache before it, and this many names of indexes
 abbrev pub folder_and_indexes : ℕ → ℕ → Takes
 folder_and_indexes l g =
     record { operands = times l g; indexes = g; writes_index = false; needs_folder = true; takes_numbers = false }
@@ -89,8 +89,8 @@ options_of command.Verify =
     ∷ (option.Digest, at_most_once) ∷ []
 options_of command.Prune = (option.Store, once) ∷ (option.Yes, once) ∷ []
 options_of command.ChunkServer =
-    (option.Store, once) ∷ (option.Listen, once) ∷ (option.Writable, at_most_once)
-    ∷ (option.Concurrency, at_most_once) ∷ (option.Digest, at_most_once) ∷ []
+    (option.Store, times 1 16) ∷ (option.Retries, at_most_once) ∷ (option.Cache, at_most_once) ∷ (option.Listen, once)
+    ∷ (option.Writable, at_most_once) ∷ (option.Concurrency, at_most_once) ∷ (option.Digest, at_most_once) ∷ []
 options_of command.IndexServer = (option.Store, once) ∷ (option.Listen, once) ∷ (option.Writable, at_most_once) ∷ []
 options_of command.Demo = (option.Concurrency, at_most_once) ∷ (option.Digest, at_most_once) ∷ []
 

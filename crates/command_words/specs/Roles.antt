@@ -1,6 +1,6 @@
 -- What each word of a command is. The words are those after the command, and a word is its bytes.
-use Rattle.std.specs.Prelude.{ℕ, ◌+◌, ◌-◌, ◌*◌, ◌==◌, List, [], ◌∷◌, ◌++◌, length, codes, count_by, fold, Option, Some}
-use Rattle.std.specs.Prelude.{None, if◌then◌else◌, nat_eq, nat_lt, slice_index_or}
+use Rattle.std.specs.Prelude.{ℕ, ◌+◌, ◌-◌, ◌*◌, ◌==◌, Bool, List, [], ◌∷◌, ◌++◌, length, codes, count_by, fold}
+use Rattle.std.specs.Prelude.{position, Option, Some, None, if◌then◌else◌, nat_eq, nat_lt, slice_index_or}
 use Rattle.std.specs.List.{slice_get, starts_with}
 use Rattle.std.specs.Str.{bytes_eq}
 use Rattle.command_words.specs.declared.option_table.CommandKind.{CommandKind}
@@ -41,6 +41,14 @@ role_number (role.Value o) = 4 + 2 * option_number o
 abbrev pub times_of_role : Role → List Role → ℕ
 times_of_role r roles = count_by (λ q. role_number q == role_number r) roles
 
+-- the option stands among words of these roles
+abbrev pub is_given : OptionKind → List Role → Bool
+is_given o roles = nat_lt 0 (times_of_role (role.Given o) roles)
+
+-- the place of the first word of the role
+abbrev pub place_of_role : Role → List Role → Option ℕ
+place_of_role r roles = position (λ q. role_number q == role_number r) roles
+
 -- what a word is after words of these roles: the value that is to come, after `--` an operand, else what it is by
 -- itself
 abbrev pub role_of : CommandKind → List Role → List ℕ → Role
@@ -71,3 +79,11 @@ pub record WordsByRole : Type 0 where
 
 abbrev pub by_role : List Role → List (List ℕ) → WordsByRole
 by_role roles words = record { roles = roles; words = words }
+
+-- the operand at a place, from 0
+abbrev pub operand : ℕ → WordsByRole → List ℕ
+operand k p = word_as role.Operand k p.roles p.words
+
+-- the value of an option, or the empty word
+abbrev pub value : OptionKind → WordsByRole → List ℕ
+value o p = word_as (role.Value o) 0 p.roles p.words

@@ -196,6 +196,16 @@ pub enum Command {
         workers: u32,
         digest: DigestKind,
     },
+    /// A `chunk-server` with a cache before its stores.
+    Proxy {
+        stores: Groups,
+        retries: u32,
+        cache: Name,
+        host: Name,
+        port: u16,
+        workers: u32,
+        digest: DigestKind,
+    },
     IndexServer {
         store: Name,
         host: Name,

@@ -6,3 +6,4 @@ pub mod location;
 pub mod option_table;
 pub mod roles;
 pub mod usage;
+pub mod whole;

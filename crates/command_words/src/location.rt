@@ -8,7 +8,7 @@ ghost use Rattle.url.specs.Parser.{parse_url};
 ghost use Rattle.command_words.specs.Locations.{contains_scheme, is_out_of_room, is_plain_http, without_last_slash};
 ghost use Rattle.command_words.specs.Locations.{no_url, server_of, url_location, location_of, Locates, host_of};
 ghost use Rattle.command_words.specs.Locations.{port_of, is_index_url, names_an_index, index_server_of, index_url};
-ghost use Rattle.command_words.specs.Locations.{index_place_of, parts_of};
+ghost use Rattle.command_words.specs.Locations.{index_place_of, parts_of, names_folder};
 
 use crate::command::Location;
 use dsy_base::name::Name;
@@ -170,6 +170,14 @@ pub fn count_parts(word: &str) -> usize
     ensures { result ≡ length (parts_of word.now) }
 {
     word.as_bytes().iter().filter(|b| **b == b'|').count() + 1
+}
+
+/// Whether the word names one folder: it is no group, and no URL.
+pub fn names_folder(word: &str) -> bool
+    ensures { result ≡ names_folder word.now }
+{
+    let bytes = word.as_bytes();
+    !bytes.contains(&b'|') && !has_scheme(bytes)
 }
 
 /// Whether an index of this name is asked for over HTTP, and is no file.

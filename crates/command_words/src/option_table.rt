@@ -62,7 +62,7 @@ pub struct Takes {
     pub indexes: usize,
     /// It writes its index, so that is a file, and no URL.
     pub writes_index: bool,
-    /// The store has to be a folder.
+    /// The store has to be a folder, unless there is a cache before it.
     pub needs_folder: bool,
     /// The operands are a number and a size, else names.
     pub takes_numbers: bool,
@@ -167,7 +167,8 @@ static COMMANDS: [CommandRow; 13] = [
         &[(OptionKind::Store, ONCE), (OptionKind::Yes, ONCE)],
         Takes { operands: Times { least: 1, greatest: 64 }, indexes: 64, needs_folder: true, ..NOTHING }),
     (CommandKind::ChunkServer, "chunk-server",
-        &[(OptionKind::Store, ONCE), (OptionKind::Listen, ONCE), (OptionKind::Writable, AT_MOST_ONCE),
+        &[(OptionKind::Store, Times { least: 1, greatest: 16 }), (OptionKind::Retries, AT_MOST_ONCE),
+            (OptionKind::Cache, AT_MOST_ONCE), (OptionKind::Listen, ONCE), (OptionKind::Writable, AT_MOST_ONCE),
             (OptionKind::Concurrency, AT_MOST_ONCE), (OptionKind::Digest, AT_MOST_ONCE)],
         Takes { needs_folder: true, ..NOTHING }),
     (CommandKind::IndexServer, "index-server",

@@ -1,9 +1,8 @@
 //! What each word of a command is. Words are counted from 0, the first word after the command.
 
-ghost use Rattle.std.specs.Prelude.{◌≡◌, ◌<◌, ℕ, List, [], length, map, string_bytes, slice_index_or, IfOk};
+ghost use Rattle.std.specs.Prelude.{◌≡◌, ◌<◌, ℕ, List, [], length, map, string_bytes, slice_index_or, IfOk, IfSome};
 ghost use Rattle.command_words.specs.Roles.{option_role, spelled_role, opens, awaited, role_of, role_number};
-ghost use Rattle.command_words.specs.Roles.{times_of_role};
-ghost use Rattle.command_words.specs.Roles.{words_as, word_as};
+ghost use Rattle.command_words.specs.Roles.{times_of_role, place_of_role, is_given, words_as, word_as};
 
 use crate::option_table::{CommandKind, OptionKind, option_named};
 
@@ -109,6 +108,22 @@ pub fn count_of(role: Role, roles: &[Role]) -> usize
         .iter()
         .filter(|other| other.number() == number)
         .count()
+}
+
+/// Whether the option stands among words of these roles.
+pub fn is_given(option: OptionKind, roles: &[Role]) -> bool
+    ensures { result ≡ is_given option roles.now }
+{
+    count_of(Role::Given(option), roles) > 0
+}
+
+/// The place of the first word of the role.
+pub fn place_of(role: Role, roles: &[Role]) -> Option<usize>
+    ensures value { result ≡ place_of_role role roles.now }
+    ensures inside { IfSome result (λ i. i < length roles.now) }
+{
+    let number = role.number();
+    roles.iter().position(|other| other.number() == number)
 }
 
 /// The word at a place among those of the role, from 0, or the empty word.

@@ -22,7 +22,7 @@ pub enum UsageWhy {
     BadSizes,
     /// Neither a folder's name nor an `http` URL.
     BadLocation,
-    /// A URL where the command works on a folder alone.
+    /// A URL or a group where the command works on a folder alone.
     NeedsFolder,
     /// Not the name of an index file, which ends in `.caibx`.
     BadSeed,
@@ -36,6 +36,8 @@ pub enum UsageWhy {
     NeedsYes,
     /// Too few operands, or too many.
     Operands,
+    /// With a cache before its stores, `chunk-server` takes no chunks, so it refuses `-w`.
+    ReadOnly,
 }
 
 /// Why words weren't read.

@@ -251,7 +251,7 @@ module _ (x : Contents) (w v : World) (quiet : IsQuiet w v) where
       (λ o h. unchanged u (indexes_at 0 names next) o at h.0.1 h.2 (elim (indexes_unread x u.disk v.disk at.has.files (file_unrisen x w u v at quiet) 0 names o h.0.0) [ inl none ↦ inl none | inr ends ↦ inr (ends next) ]))
       (λ ls e r h rest. ends_as x v (next ls) (indexes_at 0 names next) (outcome_of r) (λ y so. indexes_there x u.disk at.has.files 0 names ls h.0.0.0 h.0.0.1 next (outcome_of r) y so) (on ls e (at_read x w u e at h.0.1 h.2) r rest))
 
-  -- ---- indexes that are had one by one, from files
+  -- ---- indexes that are obtained one by one, from files
 
   one_had : (q : List ℕ) → IsTrue (is_file q) → (u e : World) (l : Listing) → IsAt x w u → OnStorage (IndexGot q) u (Ok l) e → Listed u.disk q l × IsAt x w e × Reads u.disk e.disk
   one_had q file u e l at h =

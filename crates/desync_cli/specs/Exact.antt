@@ -190,7 +190,7 @@ CacheGains None l stores before after = after ≡ before
 CacheGains (Some c) l stores before after = (f : Map (List ℕ)) × (before c ≡ Some f)
     × (g : Map (List ℕ)) × (after ≡ at_name before c (Some g)) × GainsListed (IsListedBy l) stores f g
 
--- what an assembly of OUT answers and leaves, where P says of each entry whether it can be had
+-- what an assembly of OUT answers and leaves, where P says of each entry whether it can be obtained
 pub record IsAssembledAs (l : Listing) (P : ℕ → Type 0) (stores : List (Map (List ℕ))) (cache : Option (List ℕ))
     (in_place : Bool) (out : List ℕ) (x : Contents) (o : Outcome) (y : Contents) : Type 0 where
   pub answer : ((o ≡ ends.Done) × ((i : ℕ) → i < count_of l → P i)) ⊎ NamesLacking l P stores o

@@ -174,8 +174,8 @@ where
     L::Link: Send,
     ensures status { result.status ≡ status_of result.outcome }
 
-    // The whole line is told, or a front of it by a sink that failed. Where no room for a line was had at the start the
-    // outcome is Memory, and nothing was done.
+    // The whole line is told, or a front of it by a sink that failed. Where no room for a line was obtained at the
+    // start the outcome is Memory, and nothing was done.
     ensures line { TakesLine (error_line_of result.outcome) (E.output err.old) (E.output err.new)
         ⊎ ((result.outcome ≡ Outcome.Memory) × ((E.output err.new).taken ≡ (E.output err.old).taken)
         × (files.new ≡ files.old) × (dial.new ≡ dial.old) × (listen.new ≡ listen.old) × (out.new ≡ out.old)) }

@@ -48,7 +48,7 @@ over_told (Some a) None z P f = tt
 over_told (Some a) (Some b) None P f = tt
 over_told (Some a) (Some b) (Some c) P f = f a b c refl refl refl
 
--- ---- what can be had
+-- ---- what can be obtained
 
 module _ (d b : Disk) (t : Task) (x : Seeds) (views : List (Option Held)) (zip : AllZip (IsViewed d b) x.images views) (is : IsSeedIndex t.listing t.plan x.listings t.places)
     (m : Map (List ℕ)) (told : d.files ≡ Some m) (base : List ℕ) (maps : List (Map (List ℕ))) (i : ℕ) (listed : i < count_of t.listing) where
@@ -132,7 +132,7 @@ after_as l P Q base t to from (Err (faults.StoreFault s)) h = λ i lt. (λ q. (h
 after_as l P Q base t to from (Err faults.TargetFault) h = λ i lt. (λ q. (h i lt).0 (from i lt q), λ no. (h i lt).1 (λ p. no (to i lt p)))
 after_as l P Q base t to from (Err faults.Memory) h = tt
 
--- what is made right can be had
+-- what is made right can be obtained
 pub only_as : (l : Listing) (P Q : ℕ → Type 0) (a b c d : ℕ) → ((i : ℕ) → i < count_of l → P i → Q i) → ExcusesAs a b c d → (r : Result Report ExtractFault) (o t : List ℕ)
     → OnlyObtainable l P a b r o t → OnlyObtainable l Q c d r o t
 only_as l P Q a b c d to f (Ok r) o t h = λ i lt. to i lt (h i lt)

@@ -32,7 +32,7 @@ by_first {S} {V} store view t never cache_never o p a b e u f xs ms ys ns r shel
     (subst (λ (l : List (Kit S V)). IsAssembledBy store view t never cache_never o p (lent a l e) (lent b ns f) r) old
     (subst (λ (l : List (Kit S V)). IsAssembledBy store view t never cache_never o p (lent a xs e) (lent b l f) r) new made))
 
--- what holds of the entries that can be had over some bytes
+-- what holds of the entries that can be obtained over some bytes
 pub only_told : (l : Listing) (P Q : List ℕ → ℕ → Type 0) (a b : ℕ) (r : Result Report ExtractFault) (o t : Option (List ℕ)) → ((y : List ℕ) (i : ℕ) → i < count_of l → P y i → Q y i)
     → WhereTold o t (λ y z. OnlyObtainable l (P y) a b r y z) → WhereTold o t (λ y z. OnlyObtainable l (Q y) a b r y z)
 only_told l P Q a b r None t f h = tt

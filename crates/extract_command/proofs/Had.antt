@@ -1,4 +1,4 @@
--- What can be had with one of several kits that were opened for the same words.
+-- What can be obtained with one of several kits that were opened for the same words.
 use Rattle.std.proofs.Common.{◌≡◌, ◌⊎◌, ◌∙◌, ◌++◌, ℕ, zero, suc, ◌<◌, List, [], ◌∷◌, All, length, map, IsTrue, Option, Some, IfSome, refl, sym, ap, subst, inl, inr, arith}
 use Rattle.std.proofs.lemmas.List.{map-append}
 use Rattle.std.proofs.lemmas.List.Elements.{All-tail}
@@ -52,7 +52,7 @@ either P (x ∷ xs) ys (suc k, y, less, at, p) = elim (either P xs ys (k, y, ome
   | inr later ↦ inr later
 ]
 
--- a list so many times
+-- a list n times
 abbrev times : {X : Type 0} → ℕ → List X → List X
 times zero xs = []
 times (suc n) xs = xs ++ times n xs
@@ -103,7 +103,7 @@ module _ {L V D K : Type 0} (look : LookWords L) (view : ViewWords V) (state : D
         let first = are 0 q (omega (arith, lt)) in
         (views_alike d b m told quiet x.images _ _ here.viewed first.viewed, kit_holds _ here ∙ sym (kit_holds _ first))
 
-    -- so an entry that can be had with one of them can be had
+    -- so an entry that can be obtained with one of them can be obtained
     pub kit_had : (t : Task) (kits : List (Kit (Grouped (AnyStore L D K)) V)) → AreOpened look view state d b names x.images kits → IsSeedIndex t.listing t.plan x.listings t.places → (cached : List (Map (List ℕ))) (o : List ℕ) (i : ℕ) → i < count_of t.listing
         → SomeKitHas (group_words look state) view t kits cached o i → CanBeHad t.listing (resized o (image_length t.listing)) m x (cached ++ map chunks fs) i
     kit_had t kits are is cached o i listed (j, k, lt, at, (maps, holds, has)) =

@@ -85,7 +85,7 @@ module _ {S V : Type 0} (store : StoreWords S) (view : ViewWords V) (t : Task) (
             )
       ]
 
-  -- want w is had without the stores
+  -- want w is obtained without the stores
   abbrev pub SparedWith : ℕ → Type 0
   SparedWith w = IsSpared store view t (λ j. IsSomeAnd t0 (λ b. IsRightAt (resized b (image_length t.listing)) t.listing j) × AllKnow workers sure.out) from to w
 

@@ -92,8 +92,8 @@ pub record SeedHas (kind : DigestKind) (files : Map (List ℕ)) (x : Seeds) (id 
   pub fits : start_of listing entry + size ≤ length bytes
   pub right : digest_of kind (slice_of listing bytes entry) ≡ id_of listing entry
 
--- entry i can be had: an alike one is right in the base, or a seed has its chunk in one of these files, or the cache or
--- a store gives it, which hold these maps
+-- entry i can be obtained: an alike one is right in the base, or a seed has its chunk in one of these files, or the
+-- cache or a store gives it, which hold these maps
 abbrev pub CanBeHad : Listing → List ℕ → Map (List ℕ) → Seeds → List (Map (List ℕ)) → ℕ → Type 0
 CanBeHad l base files x maps i = RightAlike l base i
     ⊎ (((s : ℕ) × SeedHas (kind_of l) files x (id_of l i) (size_of l i) s)
@@ -105,7 +105,7 @@ abbrev pub HadFrom : Map (List ℕ) → Into → Listing → Seeds → List (Map
 HadFrom before out l x cached stores =
     CanBeHad l (base_of before out l) before x (map chunks cached ++ map chunks stores)
 
--- each entry that can be had is right in t, and each other has the base's bytes
+-- each entry that can be obtained is right in t, and each other has the base's bytes
 abbrev pub AreFilled : Listing → (ℕ → Type 0) → List ℕ → List ℕ → Type 0
 AreFilled l P base t =
     (i : ℕ) → i < count_of l → (P i → IsRightAt t l i) × ((P i → ⊥) → slice_of l t i ≡ slice_of l base i)
@@ -148,15 +148,15 @@ CacheLacksEntry d e (Some c) l k = IfSome e.folders (λ n. IfSome (n c) (λ g.
 abbrev pub WhereFolders : Map (Map (List ℕ)) → Stores → (List (Map (List ℕ)) → Type 0) → Type 0
 WhereFolders n stores P = (fs : List (Map (List ℕ))) → map (group_files n) stores.groups ≡ map Some fs → P fs
 
--- where stores are folders, each entry can be had, or has the base's bytes in t, unless a write to it failed; whatever
--- else fails
+-- where stores are folders, each entry can be obtained, or has the base's bytes in t, unless a write to it failed;
+-- whatever else fails
 abbrev pub OnlyHad : Disk → Disk → Map (List ℕ) → Map (Map (List ℕ)) → List (Map (List ℕ)) → Stores → Into
     → Listing → Seeds → List ℕ → Type 0
 OnlyHad d e before n cs stores out l x t = WhereFolders n stores (λ fs.
     IsObtainableOrBase l (HadFrom before out l x cs fs) (count_at d.file_counts out.name)
     (count_at e.file_counts out.name) (base_of before out l) t)
 
--- the chunk of entry k can't be had from the stores, for this reason; an alike entry that is right in the base
+-- the chunk of entry k can't be obtained from the stores, for this reason; an alike entry that is right in the base
 -- couldn't be read, and no seed that has the chunk; and the cache doesn't give it. n are the folders
 pub record IsLacking (w v : Storage) (before : Map (List ℕ)) (n : Map (Map (List ℕ))) (cache : Option (List ℕ))
     (out : Into) (l : Listing) (x : Seeds) (stores : Stores) (k : ℕ) (id : ChunkId) (r : Refused) : Type 0 where
@@ -189,8 +189,8 @@ abbrev pub Undisturbed : Disk → Disk → Option (List ℕ) → Listing → Lis
 Undisturbed d e cache l cs fs = DiskQuiet d e
     × (IsSome cache → GiveOneSize (IsListedAs l) (kind_of l) (map chunks cs ++ map chunks fs))
 
--- entry k is named, for this reason, each before it is right, and what isn't the base's can be had. Where stores are
--- folders, undisturbed, k is the least that can't be had, and each that can be had was made right
+-- entry k is named, for this reason, each before it is right, and what isn't the base's can be obtained. Where stores
+-- are folders, undisturbed, k is the least that can't be obtained, and each that can be obtained was made right
 abbrev pub StopsLacking : Storage → Storage → Stores → Option (List ℕ) → Into → Listing → Seeds → ℕ → ChunkId
     → Refused → Type 0
 StopsLacking w v stores cache out l x k id r = Told w.disk v.disk cache (λ b a n cs.
@@ -207,9 +207,9 @@ StopsFailed w v stores l s = (k : ℕ) × (id : ChunkId) × (k < count_of l) × 
     × HaveLackedIn stores.retries (chunk_of (kind_of l) id (size_of l k)) w v stores.groups (refused.StoreFault s)
 
 -- the file became the image of the index, with chunks from the seeds, the cache and the stores, or why not. Where
--- stores are folders, it does so only where each entry can be had, and undisturbed exactly there; else the first that
--- can't be had is named. A store that failed is named only where some entry can't be had from the seeds or the cache
--- either
+-- stores are folders, it does so only where each entry can be obtained, and undisturbed exactly there; else the first
+-- that can't be obtained is named. A store that failed is named only where some entry can't be obtained from the seeds
+-- or the cache either
 abbrev pub Assembled : Storage → Storage → Stores → Option (List ℕ) → Into → Listing → Seeds
     → Result Unit Outcome → Type 0
 Assembled w v stores cache out l x (Ok u) = Told w.disk v.disk cache (λ b a n cs.
@@ -231,7 +231,7 @@ Assembled w v stores cache out l x (Err ends.Memory) =
     Told w.disk v.disk cache (λ b a n cs. StopsSomewhere w v b a out l (OnlyHad w.disk v.disk b n cs stores out l x))
 Assembled w v stores cache out l x (Err other) = ⊥
 
--- OUT holds afterwards the image that INDEX, which spells an index as is said, lists
+-- OUT holds afterwards the image that INDEX, which spells an index by the relation that is given, lists
 pub record IsExtracted (Spelled : List ℕ → Listing → Type 0) (after : Map (List ℕ)) (index out : List ℕ) : Type 0 where
   pub listing : Listing
   pub listed : Spelled index listing

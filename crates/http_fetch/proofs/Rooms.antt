@@ -242,7 +242,7 @@ told_fits wide room kind.ToEnd bytes b is fits = refl
 
 -- ---- a body by its Content-Length, with the room for it and with more
 
--- so many bytes are there and missing
+-- as many bytes are there and missing
 abbrev Counts : ℕ → Next → ℕ → List ℕ → Type 0
 Counts n next.Whole left body = Unit {0}
 Counts n next.Length left body = length body + left ≡ n

@@ -1,4 +1,4 @@
--- What is fetched by one GET, with a body of at most so many bytes. Which replies are taken is this project's own.
+-- What is fetched by one GET, with a body of at most this many bytes. Which replies are taken is this project's own.
 use Rattle.std.specs.Prelude.{◌≡◌, ◌≢◌, ℕ, ◌≤◌, ◌⊎◌, Bool, true, false, nat_lt, List, length, Result, Ok, Err}
 use Rattle.dsy_base.specs.Counts.{Rose, raised}
 use Rattle.dsy_base.specs.Links.{Traffic}
@@ -30,7 +30,7 @@ room_of_body most (kind.Length n) = n
 room_of_body most kind.Chunked = most
 room_of_body most kind.ToEnd = most
 
--- these bytes, at most so many, are the body of a 200
+-- these bytes, at most this many, are the body of a 200
 pub record GivesBody (most : ℕ) (t : Traffic) (b : List ℕ) : Type 0 where
   pub few : length b ≤ most
   pub body : SaysBody t b
@@ -46,7 +46,7 @@ pub record HasNoBody (most : ℕ) (t : Traffic) (f : WireFault) : Type 0 where
 
 -- ---- the reply
 
--- the reply to a GET gives no body of at most so many bytes, for this reason
+-- the reply to a GET gives no body of at most this many bytes, for this reason
 abbrev pub RefusesGet : ℕ → Traffic → Unfetched → Type 0
 RefusesGet most t unfetched.Absent = SaysStatus method.Get t 404
 RefusesGet most t (unfetched.Status status) = SaysStatus method.Get t status × IsUnwanted method.Get status

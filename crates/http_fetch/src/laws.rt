@@ -7,7 +7,7 @@ ghost use Rattle.http_fetch.specs.declared.fetch.Unfetched.{Unfetched};
 
 use http_read::laws::head_says_one_thing;
 
-/// The reply to a GET whose body may have so many bytes says one thing: a connection that ended permits one answer.
+/// The reply to a GET whose body may have this many bytes says one thing: a connection that ended permits one answer.
 pub fn reply_says_one_thing()
     ensures same { (most : ℕ) (t : Traffic) (r s : Result (List ℕ) Unfetched) → RepliesToGet most t r
         → RepliesToGet most t s → r ≡ s }

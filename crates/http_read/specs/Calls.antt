@@ -34,7 +34,7 @@ abbrev pub Notes : {A : Type 0} → Result A Unanswered → Log → Log → Type
 Notes (Ok x) old new = KeepsCount old new
 Notes (Err refused) old new = NotesRefusal refused old new
 
--- what was had of a server that was asked for a chunk
+-- what was obtained of a server that was asked for a chunk
 abbrev pub GetsChunk : Got → Server → List ℕ → List ℕ → Option (List Traffic) → Option (List Traffic) → Type 0
 GetsChunk (got.Chunk n) s id out old new = (n ≤ length out) × AddsOne (IsShowing s id (take n out)) old new
 GetsChunk got.Missing s id out old new = AddsOne (IsDenial s id) old new

@@ -44,6 +44,7 @@ fn answer<S: Service>(
         (λ _. StepLacks (S.protocol (S.setting desk.old)).answering (S.state desk.old)
         received.now.request received.now.body.items (S.state desk.new))) }
     ensures kept { S.setting desk.new ≡ S.setting desk.old }
+    ensures changed { S.leaves desk.old desk.new }
     ensures faults { (S.state desk.old).faults ≤ (S.state desk.new).faults }
 {
     S::answer(desk, alloc, &received.request, received.body.as_slice())
@@ -71,6 +72,7 @@ fn take_turn<K: Link, S: Service>(
         (stream_in waiting.old.items (K.state link.old).traffic) (S.state desk.old)
         (stream_in waiting.new.items (K.state link.new).traffic) (S.state desk.new) }
     ensures kept { S.setting desk.new ≡ S.setting desk.old }
+    ensures changed { S.leaves desk.old desk.new }
     ensures served_faults { (S.state desk.old).faults ≤ (S.state desk.new).faults }
     ensures given { given_in (K.state link.new).traffic ≡ given_in (K.state link.old).traffic }
     ensures faults { CountsFaults IoFault.Failed IoFault.Memory
@@ -112,6 +114,7 @@ pub fn serve_connection<K: Link, S: Service>(
     ensures given { given_in (K.state link.new).traffic ≡ given_in (K.state link.old).traffic }
     ensures faults { (K.state link.old).faults ≤ (K.state link.new).faults }
     ensures kept { S.setting desk.new ≡ S.setting desk.old }
+    ensures changed { S.leaves desk.old desk.new }
     ensures served_faults { (S.state desk.old).faults ≤ (S.state desk.new).faults }
 {
     let mut waiting = Vec::new(alloc);

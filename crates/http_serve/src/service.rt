@@ -59,6 +59,9 @@ pub trait Service {
     /// The greatest number of bytes that a body may have.
     ghost limit: { ℕ };
 
+    /// What any number of answers leaves, also where nothing is told of what the desk answers from.
+    ghost leaves: { Self.Desk → Self.Desk → Type 0 };
+
     /// Reads a head, which is all of these bytes.
     fn read(desk: &Self::Desk, alloc: Global, head: &[u8]) -> Result<Self::Request, Memory>
         ensures ok { IfOk result (λ r. (protocol (setting desk.now)).reading.says head.now r) }
@@ -91,8 +94,15 @@ pub trait Service {
         ensures err { OnErr result (IfSome (state desk.old).files (λ _.
             StepLacks (protocol (setting desk.old)).answering (state desk.old) request.now body.now (state desk.new))) }
         ensures kept { setting desk.new ≡ setting desk.old }
+        ensures changed { leaves desk.old desk.new }
         ensures faults { (state desk.old).faults ≤ (state desk.new).faults };
 
     /// What is as it was differs in nothing that counts.
     ghost same: { (s : Setting) (m : Files) → (protocol s).answering.alike m m };
+
+    /// No answer leaves all as it was.
+    ghost leaves_none: { (s : Self.Desk) → leaves s s };
+
+    /// Answers leave what some of them leave, and then the others.
+    ghost leaves_more: { (s t u : Self.Desk) → leaves s t → leaves t u → leaves s u };
 }

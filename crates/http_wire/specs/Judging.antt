@@ -84,7 +84,7 @@ pub record JudgedHead : Type 0 where
   pub close : Bool
   pub body : ℕ
 
--- a head with this method, target, version and lines, where a body may have so many bytes
+-- a head with this method, target, version and lines, where a body may have this many bytes
 unfoldable pub judged_head : ℕ → Bool → Option Method → List ℕ → ℕ → List (List ℕ × List ℕ) → JudgedHead
 judged_head limit writable name target minor lines = record {
   method = judged_method limit writable name (notes unframed lines);

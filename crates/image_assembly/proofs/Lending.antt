@@ -51,7 +51,7 @@ use Rattle.range_survey.specs.declared.report.Report.{Report}
 use Rattle.store_chain.proofs.Kept.{kept_still}
 use Rattle.store_chain.specs.Chains.{Chained}
 
--- ---- what can be had in other words
+-- ---- what can be obtained in other words
 
 told_map : (o p : Option (List ℕ)) {P Q : List ℕ → List ℕ → Type 0} → ((y z : List ℕ) → P y z → Q y z) → WhereTold o p P → WhereTold o p Q
 told_map None p each has = tt

@@ -28,8 +28,8 @@ both_told (Some cached) maps = option_map (λ ms. cached ++ ms) maps
 abbrev pub seeds_tell : Bool → List (Option Held) → Bool
 seeds_tell tells views = if list_any is_some views then tells else true
 
--- whether want w can be had from the base, and from seeds and stores that hold this: an entry of it is right in the
--- base, or a seed gives its chunk, or a store does
+-- whether want w can be obtained from the base, and from seeds and stores that hold this: an entry of it is right in
+-- the base, or a seed gives its chunk, or a store does
 abbrev pub want_had : Task → List ℕ → List (Option Held) → List (Map (List ℕ)) → ℕ → Bool
 want_had t base views maps w = list_any (is_right_at t.listing base) (of_want t.plan w)
     || (seeds_give views (places_at t.places w) (want_id t.listing t.plan w)

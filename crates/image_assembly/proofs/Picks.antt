@@ -214,7 +214,7 @@ module _ (t : Task) (base : List ℕ) (wants : AreWants t.listing t.plan.wants t
         (gives_right (kind_of t.listing) (want_id t.listing t.plan w) (size_of t.listing (first_of t.plan w)) b.held b.given
         (subst (λ ms. SomeGives (kind_of t.listing) (want_id t.listing t.plan w) (size_of t.listing (first_of t.plan w)) ms) (sym same) gives))))))
 
-    -- what can be had of what the cache gives meanwhile some kit may have
+    -- what can be obtained of what the cache gives meanwhile some kit may have
     module _ (n : ℕ) (q : Kit S V) (less : n < length kits) where
       abbrev kit_here : Kit S V
       kit_here = slice_index_or kits n q
@@ -225,7 +225,7 @@ module _ (t : Task) (base : List ℕ) (wants : AreWants t.listing t.plan.wants t
       abbrev Fits : ℕ → List (Map (List ℕ)) → Type 0
       Fits w ms = SomeGives (kind_of t.listing) (want_id t.listing t.plan w) (size_of t.listing (first_of t.plan w)) ms
 
-      -- all of it can be had with this kit, or it stands in another kit's store
+      -- all of it can be obtained with this kit, or it stands in another kit's store
       had_by_some : (i : ℕ) → i < count_of t.listing → (held ms own all : List (Map (List ℕ))) → all ≡ held ++ own → map store.holds (all_stores kits) ≡ map Some ms
           → IsObtainable t base (views_at kit_here) ((held ++ ms) ++ own) i
           → (want_had t base (views_at kit_here) all (want_at t.plan i) ≡ true) ⊎ (some_may_have store view t base cached_now kits (want_at t.plan i) ≡ true)

@@ -75,11 +75,11 @@ numbers l (suc k) = numbers l k ++ least_from (λ w. not (clashes l (numbers l k
 abbrev count_wants : List ℕ → ℕ → ℕ
 count_wants ws n = least_from (λ w. not (some_below (λ i. slice_index ws i == w) n)) 0 n
 
--- where the shards end of this index, if there are so many
+-- where the shards end of this index, if there are this many
 abbrev shard_ends : Listing → ℕ → List ℕ
 shard_ends l shards = map (λ k. start_of l (shard_start (count_of l) shards (k + 1))) (range_with_len 0 shards)
 
--- the plan of this index for so many workers
+-- the plan of this index for this many workers
 unfoldable pub plan_of : Listing → ℕ → Deal
 plan_of l workers = record {
   workers = workers;

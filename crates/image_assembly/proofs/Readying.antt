@@ -123,7 +123,7 @@ module _ {S V : Type 0} (store : StoreWords S) (view : ViewWords V) (r : Run) (t
     pub begun_beside : (f : ℕ) → f ≤ x.whole.faults_before → BegunBeside r old f x.whole
     begun_beside f before = record { before = before; base = based; told = told_so }
 
-    -- what may be filled can be had over these bytes, with the image's length
+    -- what may be filled can be obtained over these bytes, with the image's length
     abbrev HadOver : List (Map (List ℕ)) → List ℕ → Type 0
     HadOver cached z = (i : ℕ) → i < count_of r.listing → r.may i ≡ true
         → Any (λ (k : Kit S V). (maps : List (Map (List ℕ))) × (map store.holds k.chain.stores ≡ map Some maps) × IsObtainable t z (views_of view k.seeds.items) (cached ++ maps) i) x.kits

@@ -35,7 +35,7 @@ pub record IsRunFor (r : Run) (l : Listing) (workers : ℕ) (told : Bool) (old :
   pub tells : r.tells ≡ told
 
 -- what the run permits with several kits and this cache, of which a type names the kind, what its folder held, and what
--- may be added: an entry may be filled that can be had with one of them, and no other where all of them tell
+-- may be added: an entry may be filled that can be obtained with one of them, and no other where all of them tell
 pub record Permits {S V : Type 0} (store : StoreWords S) (view : ViewWords V) (r : Run) (t : Task)
     (kits : List (Kit S V)) (kind : DigestKind) (first : Option (Map (List ℕ))) (taken : List ℕ) (failed : ℕ)
     (pairs : Option (List (List ℕ × ℕ))) (maps : Option (List (Map (List ℕ)))) (cache : Option Shelf) : Type 0 where

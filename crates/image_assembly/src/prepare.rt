@@ -244,11 +244,11 @@ impl<'a, R: RunName + Send + Sync, T: Target, S: Store + Send, V: View + Send> P
     S,
     V,
 > {
-    /// Makes right all that the survey left open and that can be had. The chunk of each want comes from an alike entry
-    /// that is right, or from a seed, or from the cache, or else from the stores; what a store gives is added to the
-    /// cache, whose faults are passed over. With several kits there are as many workers, and the cache, whose folder
-    /// `N` names, is behind a lock meanwhile. Goes on past wants whose chunk no source gives, and answers for the first
-    /// entry of them. What was handed over comes back whatever the answer is.
+    /// Makes right all that the survey left open and that can be obtained. The chunk of each want comes from an alike
+    /// entry that is right, or from a seed, or from the cache, or else from the stores; what a store gives is added to
+    /// the cache, whose faults are passed over. With several kits there are as many workers, and the cache, whose
+    /// folder `N` names, is behind a lock meanwhile. Goes on past wants whose chunk no source gives, and answers for
+    /// the first entry of them. What was handed over comes back whatever the answer is.
     pub fn run<W: Threads + Wait + Sync, N: FolderName + Send + Sync, F: Folder + Send + Sync>(
         self,
         rt: &W,

@@ -33,8 +33,8 @@ fn is_room(alloc: Global, index: &Index, workers: usize) -> bool {
     room.is_ok()
 }
 
-/// How many of these workers there is memory for: all of them, or as many as can be had, and one at least. No memory is
-/// looked for where there is one.
+/// How many of these workers there is memory for: all of them, or as many as can be obtained, and one at least. No
+/// memory is looked for where there is one.
 pub fn workers_with_room(alloc: Global, index: &Index, workers: usize) -> usize
     requires { 1 ≤ workers }
     ensures size { (1 ≤ result) × (result ≤ workers) }

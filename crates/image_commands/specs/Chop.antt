@@ -94,7 +94,7 @@ ChopEnds store index image = do
   held ← OnDisk (SourceTaken (image ∷ []) store)
   OnStorage (ImageChopped l image told store held)
 
--- INDEX spells this index, as is said, and IMAGE is the image that it lists
+-- INDEX spells this index, by the relation that is given, and IMAGE is the image that it lists
 pub record IsChopped (Spelled : List ℕ → Listing → Type 0) (files : Map (List ℕ)) (index image : List ℕ) (l : Listing)
     : Type 0 where
   pub listed : Spelled index l

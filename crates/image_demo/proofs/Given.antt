@@ -78,7 +78,7 @@ module _ (l : Listing) (d : Deal) (x : Placed) (base : List ℕ) (views : List (
       let left : length (drop (start_of l k) t) ≡ length t - start_of l k = length-drop (start_of l k) t in
       length-take-le (end_of l k - start_of l k) (drop (start_of l k) t) (omega (arith, left, all, within, rises))
 
-  -- where the store holds bytes of each name, what can't be had shows two unequal pieces of one name
+  -- where the store holds bytes of each digest, what can't be obtained shows two unequal pieces of one digest
   pub two_pieces : (held : Option (Map (List ℕ))) (stocked : IsStocked l t held) (k : ℕ) → k < count_of l → (IsObtainable (task_of l d x) base views (stocked.map ∷ []) k → ⊥) → (id : ChunkId) → id.0 ≡ id_of l k → HasTwoPieces (kind_of l) l.greatest id.0
   two_pieces held stocked k inside lacked id is = elim (stocked.each (id_of l k)) [
     | inl none ↦ absurd (clash (stocked.all k inside).0 (sym none ∙ (stocked.all k inside).1))

@@ -126,7 +126,7 @@ module _ (l m : Listing) (d : Deal) (x : Placed) (wants : AreWants l d.wants d.w
           rw here (rw named (rw sized refl))
       stored kind id size (suc k, n, inside, is, rest) = absurd (omega (arith, inside))
 
-      -- a chunk that can be had, and is neither in zeros nor in the seed, is in the store
+      -- a chunk that can be obtained, and is neither in zeros nor in the seed, is in the store
       fetched : (i : ℕ) → i < count_of l → IsObtainable (task_of l d x) base views (map ∷ []) i → is_in_zeros l i ≡ false → is_in_seed l m i ≡ false
           → stores_give (kind_of l) (id_of l i) (size_of l i) (map ∷ []) ≡ true
       fetched i below (inl alike) none n = absurd (clash (sym none ∙ right_alike i alike)) where

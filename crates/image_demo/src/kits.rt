@@ -49,7 +49,7 @@ fn add_kits<S: Store + Copy, V: View + Copy>(
 }
 
 /// A kit for each of these workers, all of one store and one seed, which name chunks by this digest. A further kit
-/// that can't be had for want of memory is a worker fewer.
+/// that can't be obtained for want of memory is a worker fewer.
 pub fn kits_of<S: Store + Copy, V: View + Copy>(
     alloc: Global,
     kind: DigestKind,

@@ -29,7 +29,7 @@ raised_twice : (a m k : ℕ) → raised (raised a m) k ≡ raised a (m + k)
 raised_twice a m k = omega arith
 
 module _ {S : Type 0} (store : StoreWords S) (old mid new : ReaderState S) where
-  -- what was had before is had still
+  -- what was obtained before is obtained still
   pub had_later : (P : Ask → Type 0) → KeepsStores store P mid.chain.stores new.chain.stores → (w : Want) → IsHad store w old mid → IsHad store w old new
   had_later P keeps w (inl has) = inl has
   had_later P keeps w (inr got) = inr (record {
@@ -40,7 +40,7 @@ module _ {S : Type 0} (store : StoreWords S) (old mid new : ReaderState S) where
   })
 
   module _ (at n k : ℕ) (before : ReadsTo store at n k old mid) where
-    -- what is had of a reader that has read
+    -- what is obtained of a reader that has read
     pub had_then : (P : Ask → Type 0) → KeepsStores store P mid.chain.stores new.chain.stores → (w : Want) → IsHad store w mid new → IsHad store w old new
     had_then P keeps w (inl has) = had_later P keeps w (before.known w has)
     had_then P keeps w (inr got) =

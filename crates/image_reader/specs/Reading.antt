@@ -63,7 +63,7 @@ module _ {S : Type 0} (store : StoreWords S) where
     pub keep : now.keep ≡ old.keep
 
   module _ (at n : ℕ) where
-    -- the covered ones among the first k entries were read in order: each was had, as was each chunk that is kept.
+    -- the covered ones among the first k entries were read in order: each was obtained, as was each chunk that is kept.
     -- Those that weren't kept were asked for, once each, and what is kept is what their wants leave
     pub record ReadsTo (k : ℕ) (old now : ReaderState S) : Type 0 where
       pub kept : now.kept ≡ (step old.keep old.kept (wants_to old.index at n k)).kept

@@ -21,7 +21,7 @@ pub(crate) fn copy_part(chunk: &[u8], from: usize, out: &mut [u8])
     out.copy_from_slice(&chunk[from..from + out.len()]);
 }
 
-/// At most so many chunks, each by its want. Contracts see the list of their wants.
+/// At most this many chunks, each by its want. Contracts see the list of their wants.
 #[derive(Drop)]
 pub struct KeptChunks {
     kind: DigestKind,
@@ -41,7 +41,7 @@ impl Model for KeptChunks {
 }
 
 impl KeptChunks {
-    /// Room for so many chunks, which this digest names.
+    /// Room for this many chunks, which this digest names.
     pub fn new(
         alloc: Global,
         kind: DigestKind,

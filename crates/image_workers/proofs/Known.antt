@@ -114,7 +114,7 @@ module _ (t : Task) (wants : AreWants t.listing t.plan.wants t.plan.want_of) (ba
       inr (subst (λ n. SeedsGive views (places_at t.places w) (want_id l d w) ⊎ SomeGives (kind_of l) (want_id l d w) n (cached ++ maps)) like.1
       (subst (λ q. SeedsGive views (places_at t.places w) q ⊎ SomeGives (kind_of l) q (size_of l i) (cached ++ maps)) like.0 source))
 
-  -- what can be had has a source
+  -- what can be obtained has a source
   pub had_not_open : (i : ℕ) → i < count_of t.listing → IsObtainable t base views (cached ++ maps) i → source_of t base views cached maps (want_at t.plan i) ≡ fate.Open → ⊥
   had_not_open i inside can none =
       had_source t views maps (want_at t.plan i) cached m (had_first i inside can) (source_first (want_at t.plan i) ∙ none)

@@ -35,7 +35,7 @@ abbrev pub MayFillAlike : Run → Task → ℕ → Type 0
 MayFillAlike r t i = (j : ℕ) × (j < count_of t.listing) × (want_at t.plan j ≡ want_at t.plan i) × (r.may j ≡ true)
 
 -- with seeds whose views hold this, a cache that gives what is told so, and stores that tell so: an entry may be filled
--- where an alike one may be, or where it can be had, as far as that is told
+-- where an alike one may be, or where it can be obtained, as far as that is told
 abbrev pub PermitsWith : Bool → Run → Task → List (Option Held) → Option (List (Map (List ℕ)))
     → List (Option (Map (List ℕ))) → Type 0
 PermitsWith view_tells r t views given told = (i : ℕ) → i < count_of t.listing
@@ -69,7 +69,7 @@ module _ {S V : Type 0} (store : StoreWords S) (view : ViewWords V) (r : Run) (t
     pub seeds : KeepsSeeds view old.seeds kit.seeds.items
     pub stores : KeepsStores store (IsListedGet t.listing) old.chain.stores kit.chain.stores
 
-  -- what may be filled can be had from these sources, of which cache and stores hold these maps
+  -- what may be filled can be obtained from these sources, of which cache and stores hold these maps
   abbrev pub FillsObtainable : Sources S V → List (Map (List ℕ)) → List (Map (List ℕ)) → List ℕ → Type 0
   FillsObtainable old cached maps y = (i : ℕ) → i < count_of t.listing → r.may i ≡ true
       → IsObtainable t (resized y (image_length t.listing)) (views_of view old.seeds) (cached ++ maps) i
@@ -80,9 +80,9 @@ module _ {S V : Type 0} (store : StoreWords S) (view : ViewWords V) (r : Run) (t
       Stocked (TakesWants store t.listing t.plan (λ w. w < t.plan.wants) old.chain.stores) old.cache cache
 
   -- what such an assembly has done, from these sources of the first worker to those; between the passes this is seen of
-  -- the cache. Only what may be filled was made right. What is said of what can be had where nothing fails is so where
-  -- what was added in the first pass is what the first worker's stores hold, and where what may be filled can be had
-  -- from its sources
+  -- the cache. Only what may be filled was made right. What is said of what can be obtained where nothing fails is so
+  -- where what was added in the first pass is what the first worker's stores hold, and where what may be filled can be
+  -- obtained from its sources
   pub record AssembledBeside (o p : Option (List ℕ)) (old : Sources S V) (between : Option Shelf) (new : Sources S V)
       (answer : Result Report ExtractFault) : Type 0 where
     pub bytes : WhereTold o p (Assembles t.listing ⊥ old.faults new.faults answer)

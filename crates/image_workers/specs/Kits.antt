@@ -81,8 +81,8 @@ abbrev pub KnowsFaults : {K : Type 0} → Bool → List K → Type 0
 KnowsFaults never_fails kits = (length kits ≡ 1) ⊎ IsTrue never_fails
 
 module _ {S V : Type 0} (store : StoreWords S) (view : ViewWords V) (t : Task) where
-  -- want w is had without the stores: an entry of it is right in the base, and the target didn't fail, of which all
-  -- workers know; or a seed gives it that didn't fail; or the opening cache does, which didn't fail, of which all
+  -- want w is obtained without the stores: an entry of it is right in the base, and the target didn't fail, of which
+  -- all workers know; or a seed gives it that didn't fail; or the opening cache does, which didn't fail, of which all
   -- workers know, and in whose place the stores of no kit give another chunk
   abbrev pub IsSparedFor : Bool → Bool → Option (List ℕ) → Lent S V → Sources S V → Sources S V → ℕ → Type 0
   IsSparedFor never_fails cache_never_fails o all old new w = IsSpared store view t (λ j. IsSomeAnd o
@@ -92,7 +92,7 @@ module _ {S V : Type 0} (store : StoreWords S) (view : ViewWords V) (t : Task) w
 
   -- what became of the kit of worker k, of what is lent. Only listed chunks were asked for. Where nothing fails, of a
   -- target whose type never does, and the cache isn't shared, the worker has asked for the chunk of each want that it
-  -- is dealt and that is had in no other way
+  -- is dealt and that is obtained in no other way
   pub record KitUsed (never_fails cache_never_fails : Bool) (o : Option (List ℕ)) (all : Lent S V) (k : ℕ)
       (old new : Sources S V) (answer : Result Report ExtractFault) : Type 0 where
     pub asks : (spared : ℕ → Bool)
@@ -119,12 +119,12 @@ module _ {S V : Type 0} (store : StoreWords S) (view : ViewWords V) (t : Task) w
   AllKitsTell kits = All (λ k. Telling view.tells (views_of view k.seeds.items)
       × ((maps : List (Map (List ℕ))) × (map store.holds k.chain.stores ≡ map Some maps))) kits
 
-  -- entry i can be had with one of these kits, over these bytes of the target; the cache holds these maps
+  -- entry i can be obtained with one of these kits, over these bytes of the target; the cache holds these maps
   abbrev pub SomeKitHas : List (Kit S V) → List (Map (List ℕ)) → List ℕ → ℕ → Type 0
   SomeKitHas kits cached y i = Any (λ k. (maps : List (Map (List ℕ))) × (map store.holds k.chain.stores ≡ map Some maps)
       × IsObtainable t (resized y (image_length t.listing)) (views_of view k.seeds.items) (cached ++ maps) i) kits
 
-  -- what may be filled can be had with one of these kits over the target's bytes, where all of them tell, and the
+  -- what may be filled can be obtained with one of these kits over the target's bytes, where all of them tell, and the
   -- opening cache does
   abbrev pub MayFillFrom : (ℕ → Bool) → Option (List ℕ) → Option Shelf → List (Kit S V) → Type 0
   MayFillFrom may o cache kits = AllKitsTell kits → (cached : List (Map (List ℕ))) → cached_in cache ≡ Some cached

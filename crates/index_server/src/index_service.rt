@@ -40,7 +40,13 @@ impl<F: Folder> Service for IndexService<F> {
 
     ghost limit = { file_limit };
 
+    ghost leaves = { λ s t. Unit {0} };
+
     ghost same = { λ x m q h. refl };
+
+    ghost leaves_none = { λ s. tt };
+
+    ghost leaves_more = { λ s t u one more. tt };
 
     fn read(desk: &IndexState<F>, alloc: Global, head: &[u8]) -> Result<IndexRequest, Memory> {
         read_index_request(alloc, head, desk.writable())

@@ -1,5 +1,5 @@
 -- What chains behind locks keep, and what is obtained from them.
-use Rattle.std.proofs.Common.{◌≡◌, ℕ, zero, suc, ◌≤◌, List, [], ◌∷◌, length, map, take, slice_index, Bool, Option, Some, None, IfSome, IfErr, IsTrue, Result, Ok, Err, refl, ap, subst, ◌∙◌, arith}
+use Rattle.std.proofs.Common.{◌≡◌, ℕ, zero, suc, List, [], ◌∷◌, length, map, take, slice_index, Bool, Option, Some, None, IfSome, IfErr, IsTrue, Result, Ok, Err, refl, ap, subst, ◌∙◌, arith}
 use Rattle.caibx_fields.specs.Limits.{size_limit}
 use Rattle.chunk_proxy.proofs.Held.{all_damaged, all_lack}
 use Rattle.chunk_proxy.proofs.Sure.{no_rise}

@@ -1,5 +1,5 @@
 -- What is replied, by what the cache gave, or else the stores.
-use Rattle.std.proofs.Common.{◌≡◌, ◌≢◌, ◌⊎◌, ℕ, List, [], Bool, Option, Some, None, IfSome, IfOk, IsSome, IsTrue, Result, Ok, Err, refl, sym, ap, subst, ◌∙◌, inl, inr, arith}
+use Rattle.std.proofs.Common.{◌≡◌, ◌≢◌, ℕ, List, [], Bool, Option, Some, None, IfSome, IfOk, IsSome, Result, Ok, Err, refl, sym, ap, subst, ◌∙◌, inl, inr, arith}
 use Rattle.std.proofs.lemmas.Bool.{true≢false}
 use Rattle.chunk_proxy.specs.Answers.{IsProxyAnswer, given_by_stores}
 use Rattle.chunk_proxy.specs.Obtaining.{IsRightChunk, AnswersRefusal}

@@ -50,7 +50,7 @@ fn unname_cache<F: Folder, N: FolderName>(cache: CacheShelf<NamedFolder<F, N>>) 
 fn serve_named<
     L: Listen,
     F: Folder + Send,
-    S: Store + Send + Sync,
+    S: Store + Send,
     N: FolderName + Send,
     P: ProxyName + Send,
     R: Threads + Wait + Sync,
@@ -100,7 +100,7 @@ where
 /// There is at least one chain, and all have the same stores. The cache is given back, with right chunks added or put
 /// in the place of others, and so are the chains. `ListenFault`: it can't listen there, or the next connection can't be
 /// taken.
-pub fn serve_cache<L: Listen, F: Folder + Send, S: Store + Send + Sync, R: Threads + Wait + Sync>(
+pub fn serve_cache<L: Listen, F: Folder + Send, S: Store + Send, R: Threads + Wait + Sync>(
     rt: &R,
     alloc: Global,
     listen: &mut L,

@@ -21,7 +21,7 @@ use std::thread::Threads;
 pub fn serve_proxy<
     L: Listen,
     F: Folder + Send,
-    S: Store + Send + Sync,
+    S: Store + Send,
     N: ProxyName + Send,
     R: Threads + Wait + Sync,
 >(rt: &R, alloc: Global, listen: &mut L, shelf: &ProxyShelf<F, S, N>) -> AllServed
@@ -37,5 +37,5 @@ where
     ensures unfailed { result ≡ AllServed.Memory → (L.state listen.new).faults ≡ (L.state listen.old).faults }
     ensures faults { (L.state listen.old).faults ≤ (L.state listen.new).faults }
 {
-    serve_all(rt, alloc, listen, shelf, false)
+    serve_all(rt, alloc, listen, shelf.locks(), false)
 }

@@ -34,27 +34,43 @@ use store_chain::refused::Refused;
 
 type ChainLock<F, S, N> = HandLock<KeptChain<F, S, N>>;
 
-/// A cache and chains of stores that threads share. The cache's lock is held while a chunk's file is read or written, a
-/// chain's while its stores are asked, and no longer.
+/// The locks of a cache and of chains of stores, which threads share. The cache's lock is held while a chunk's file is
+/// read or written, a chain's while its stores are asked, and no longer.
 #[derive(Drop)]
-pub struct ProxyShelf<F: Folder, S: Store, N: ProxyName> {
+pub struct ProxyLocks<F: Folder, S: Store, N: ProxyName> {
     alloc: Global,
     cache: LockedShelf<F>,
     // The last chain's first.
     chains: Vec<ChainLock<F, S, N>>,
-    room: Vec<Chain<S>>,
 }
 
-impl<F: Folder, S: Store, N: ProxyName> Model for ProxyShelf<F, S, N> {
-    ghost use Rattle.std.specs.Prelude.{◌≡◌, ◌<◌, ◌≤◌, [], length, vec_capacity};
+impl<F: Folder, S: Store, N: ProxyName> Model for ProxyLocks<F, S, N> {
+    ghost use Rattle.std.specs.Prelude.{◌<◌, length};
     ghost use Rattle.locked_proxy.specs.Chains.{ProxyRules};
 
     ghost Value = { ProxyRules };
 
     ghost view = { λ s. record { chains = length s.chains.items } };
 
-    ghost invariant = { λ s. (0 < length s.chains.items)
-        × (s.room.items ≡ []) × (length s.chains.items ≤ vec_capacity s.room) };
+    ghost invariant = { λ s. 0 < length s.chains.items };
+}
+
+/// A cache and chains of stores behind locks, with the room in which the chains are given back.
+#[derive(Drop)]
+pub struct ProxyShelf<F: Folder, S: Store, N: ProxyName> {
+    locks: ProxyLocks<F, S, N>,
+    room: Vec<Chain<S>>,
+}
+
+impl<F: Folder, S: Store, N: ProxyName> Model for ProxyShelf<F, S, N> {
+    ghost use Rattle.std.specs.Prelude.{◌≡◌, ◌≤◌, [], vec_capacity};
+    ghost use Rattle.locked_proxy.specs.Chains.{ProxyRules};
+
+    ghost Value = { ProxyRules };
+
+    ghost view = { λ s. s.locks };
+
+    ghost invariant = { λ s. (s.room.items ≡ []) × (s.locks.chains ≤ vec_capacity s.room) };
 }
 
 /// The cache and the stores as one connection sees them. It holds one lock at a time, in no call but its own, and has
@@ -62,7 +78,7 @@ impl<F: Folder, S: Store, N: ProxyName> Model for ProxyShelf<F, S, N> {
 #[derive(Drop)]
 pub struct ProxyDoor<'a, R: Wait, F: Folder, S: Store, N: ProxyName> {
     rt: &'a R,
-    shelf: &'a ProxyShelf<F, S, N>,
+    shelf: &'a ProxyLocks<F, S, N>,
     connection: u64,
     hand: Hand,
     file: ChunkFile,
@@ -150,12 +166,12 @@ impl<F: Folder, S: Store, N: ProxyName> ProxyShelf<F, S, N> {
         match ShelfState::with_kind(alloc, kind, cache.into_inner(), false) {
             Ok(state) => {
                 let (chains, room) = lock_all(alloc, chains, locks);
-                Ok(ProxyShelf {
+                let locks = ProxyLocks {
                     alloc,
                     cache: LockedShelf::new(state),
                     chains,
-                    room,
-                })
+                };
+                Ok(ProxyShelf { locks, room })
             }
             Err((folder, fault)) => Err((CacheShelf::with_kind(kind, folder), chains, fault)),
         }
@@ -169,12 +185,8 @@ impl<F: Folder, S: Store, N: ProxyName> ProxyShelf<F, S, N> {
         ensures number { vec_len result.1 ≡ self.chains }
         ensures named { All (IsChainOf S.Store (kind_named F.kind) N.maps N.places) result.1.items }
     {
-        let ProxyShelf {
-            cache,
-            chains,
-            room,
-            ..
-        } = self;
+        let ProxyShelf { locks, room } = self;
+        let ProxyLocks { cache, chains, .. } = locks;
         let kind = cache.kind();
         let folder = cache.into_inner().into_inner();
         (
@@ -186,6 +198,21 @@ impl<F: Folder, S: Store, N: ProxyName> ProxyShelf<F, S, N> {
     /// The door of a connection, which asks the chain whose number is what is left of its own when it is divided by how
     /// many there are.
     pub fn door<'a, R: Wait>(&'a self, rt: &'a R, connection: u64) -> ProxyDoor<'a, R, F, S, N>
+        ensures { result ≡ self.now }
+    {
+        self.locks.door(rt, connection)
+    }
+
+    /// What threads share of it.
+    pub(crate) fn locks(&self) -> &ProxyLocks<F, S, N>
+        ensures { result.now ≡ self.now }
+    {
+        &self.locks
+    }
+}
+
+impl<F: Folder, S: Store, N: ProxyName> ProxyLocks<F, S, N> {
+    fn door<'a, R: Wait>(&'a self, rt: &'a R, connection: u64) -> ProxyDoor<'a, R, F, S, N>
         ensures { result ≡ self.now }
     {
         ProxyDoor {
@@ -308,7 +335,7 @@ impl<'a, R: Wait, F: Folder, S: Store, N: ProxyName> Shelf for ProxyDoor<'a, R, 
     }
 }
 
-impl<F: Folder, S: Store, N: ProxyName> SharedShelf for ProxyShelf<F, S, N> {
+impl<F: Folder, S: Store, N: ProxyName> SharedShelf for ProxyLocks<F, S, N> {
     ghost use Rattle.std.specs.Prelude.{false};
     ghost use Rattle.chunk_store.specs.Kinds.{kind_named};
     ghost use Rattle.locked_proxy.specs.Replies.{MayProxy};

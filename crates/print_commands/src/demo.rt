@@ -19,7 +19,7 @@ use std::alloc::Global;
 use std::sync::Wait;
 use std::thread::Threads;
 
-// Makes, stores and extracts the image, with so many workers.
+// Makes, stores and extracts the image, with this many workers.
 fn rehearse<R: Threads + Wait + Sync>(
     rt: &R,
     alloc: Global,

@@ -78,7 +78,7 @@ pub struct Opened {
     ghost fits: { length ≡ image_length reader.index },
 }
 
-/// A reader that keeps so many chunks, over these stores.
+/// A reader that keeps this many chunks, over these stores.
 pub fn open(
     rt: &impl Abort,
     alloc: Global,
@@ -97,7 +97,7 @@ pub fn open(
     }
 }
 
-/// A reader that keeps so many chunks, over one store that holds these.
+/// A reader that keeps this many chunks, over one store that holds these.
 pub fn open_over(
     rt: &impl Abort,
     alloc: Global,

@@ -1,4 +1,4 @@
-//! Ranges of images some of whose chunks aren't to be had.
+//! Ranges of images some of whose chunks can't be obtained.
 
 use crate::compare::ok;
 use crate::images::{

@@ -101,7 +101,7 @@ fn is_want(error: &io::Error) -> bool {
     )
 }
 
-// The next connection that can be had.
+// The next connection that can be obtained.
 fn accept_next<'a, R: Net + Clock>(
     rt: &'a R,
     listener: &R::Listener,

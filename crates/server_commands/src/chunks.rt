@@ -73,8 +73,8 @@ fn serve_taken<F: Files, L: Listen>(
     ended(served)
 }
 
-// How the command ends that serves by threads.
-fn all_ended(served: AllServed) -> Result<(), Outcome>
+/// How a command ends that serves by threads.
+pub fn all_ended(served: AllServed) -> Result<(), Outcome>
     ensures { result ≡ answer_of_sharing served }
 {
     match served {

@@ -32,6 +32,7 @@ fn serve_next<L: Listen, S: Service>(
         (S.state desk.old) (S.state desk.new) }
     ensures unfailed { result ≢ Err IoFault.Failed → (L.state listen.new).faults ≡ (L.state listen.old).faults }
     ensures kept { S.setting desk.new ≡ S.setting desk.old }
+    ensures changed { S.leaves desk.old desk.new }
     ensures faults { (L.state listen.old).faults ≤ (L.state listen.new).faults }
 {
     let mut link = match listen.accept() {
@@ -49,7 +50,7 @@ fn serve_next<L: Listen, S: Service>(
 }
 
 /// Listens at the address, and serves each connection that comes, until no more come.
-pub(crate) fn serve_in_turn<L: Listen, S: Service>(
+pub fn serve_in_turn<L: Listen, S: Service>(
     alloc: Global,
     listen: &mut L,
     address: &Address,
@@ -66,6 +67,7 @@ pub(crate) fn serve_in_turn<L: Listen, S: Service>(
         (S.state desk.old) (S.state desk.new) }
     ensures unfailed { result ≡ Err IoFault.Memory → (L.state listen.new).faults ≡ (L.state listen.old).faults }
     ensures kept { S.setting desk.new ≡ S.setting desk.old }
+    ensures changed { S.leaves desk.old desk.new }
 {
     listen.bind(address.host.as_str(), address.port)?;
     'links: for _ in 0..u64::MAX {
@@ -80,7 +82,7 @@ pub(crate) fn serve_in_turn<L: Listen, S: Service>(
 }
 
 /// How a command ends that serves so.
-pub(crate) fn ended(served: Result<(), IoFault>) -> Result<(), Outcome>
+pub fn ended(served: Result<(), IoFault>) -> Result<(), Outcome>
     ensures { result ≡ answer_of_serving served }
 {
     match served {

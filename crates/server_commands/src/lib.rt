@@ -3,5 +3,5 @@
 
 pub mod address;
 pub mod chunks;
-mod in_turn;
+pub mod in_turn;
 pub mod indexes;

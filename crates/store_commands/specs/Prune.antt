@@ -41,8 +41,8 @@ PruneEnds store indexes = do
   held ← OnDisk (StoreTaken [] store)
   OnDisk (StorePruned (is_listed_in ls) store held)
 
--- each INDEX spells an index, as is said, and the store's folder, which was there, holds its files without those that
--- are no listed chunk's and no stranger. No other folder has changed
+-- each INDEX spells an index by the relation that is given, and the store's folder, which was there, holds its files
+-- without those that are no listed chunk's and no stranger. No other folder has changed
 pub record IsPruned (Spelled : List ℕ → Listing → Type 0) (folders folders_after : Map (Map (List ℕ))) (store : List ℕ)
     (indexes : List (List ℕ)) : Type 0 where
   pub listings : List Listing

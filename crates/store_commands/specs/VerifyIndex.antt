@@ -42,7 +42,7 @@ answer_of_check (Err (checks.Mismatch k got)) = Err (ends.Mismatch k got)
 answer_of_check (Err checks.ImageFault) = Err ends.ImageFault
 answer_of_check (Err checks.Memory) = Err ends.Memory
 
--- IMAGE is the image that INDEX, which spells an index as is said, lists
+-- IMAGE is the image that INDEX, which spells an index by the relation that is given, lists
 pub record IsVerified (Spelled : List ℕ → Listing → Type 0) (files : Map (List ℕ)) (index image : List ℕ) : Type 0 where
   pub listing : Listing
   pub listed : Spelled index listing

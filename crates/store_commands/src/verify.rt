@@ -60,7 +60,7 @@ pub(crate) struct TakenStore<F: Folder, L: Look> {
     pub looks: Vec<DirStore<L>>,
 }
 
-// Takes the folder of STORE, for so many workers.
+// Takes the folder of STORE, for this many workers.
 fn take_store<F: ImageFiles>(
     alloc: Global,
     files: &mut F,

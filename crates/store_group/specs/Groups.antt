@@ -82,7 +82,7 @@ abbrev pub most : {S : Type 0} → (S → ℕ) → List S → ℕ
 most f [] = 0
 most f (s ∷ stores) = max (f s) (most f stores)
 
--- how many questions it takes at least for so many calls, where each question makes r calls more while they fail
+-- how many questions it takes at least for this many calls, where each question makes r calls more while they fail
 abbrev pub questions_of : ℕ → ℕ → ℕ
 questions_of r calls = (calls + r) / (r + 1)
 

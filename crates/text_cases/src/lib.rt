@@ -17,6 +17,8 @@ mod pieces;
 #[cfg(test)]
 mod place_tests;
 #[cfg(test)]
+mod proxy_line_tests;
+#[cfg(test)]
 mod read_tests;
 #[cfg(test)]
 mod shelf_tests;

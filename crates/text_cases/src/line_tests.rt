@@ -10,7 +10,7 @@ use std::alloc::{AllocError, Global};
 use std::process::Abort;
 
 // The words of a line, of which `''` stands for the empty one.
-fn words_of(rt: &impl Abort, alloc: Global, line: &str) -> Vec<String> {
+pub(crate) fn words_of(rt: &impl Abort, alloc: Global, line: &str) -> Vec<String> {
     let mut all = Vec::new(alloc);
     for word in line.split_whitespace() {
         let word = if word == "''" { "" } else { word };
@@ -97,8 +97,6 @@ make -s http://u@h/ a b -> 2 BadLocation
 make -s http://h/#f a b -> 2 BadLocation
 make -s http://h:x/ a b -> 2 BadLocation
 chunk-server -s st -> 3 MissingOption
-chunk-server -s a|b -l h:1 -> 2 BadLocation
-chunk-server -e 1 -s st -l h:1 -> 1 UnknownOption
 chunk-server -s st -l h:0 -> 4 BadListen
 chunk-server -s st -l h:65536 -> 4 BadListen
 chunk-server -s st -l h -> 4 BadListen
@@ -167,7 +165,7 @@ fn refusal(alloc: Global, words: &[String]) -> Result<String, AllocError> {
     }
 }
 
-fn is_refused(rt: &impl Abort, alloc: Global, line: &str) {
+pub(crate) fn is_refused(rt: &impl Abort, alloc: Global, line: &str) {
     let (words, told) = line.split_once("->").expect(rt, "no refusal is told");
     let refused = ok(rt, refusal(alloc, &words_of(rt, alloc, words)));
     same(rt, refused.as_str(), told.trim());
@@ -254,7 +252,7 @@ fn words_of_make_are_read(rt: HostRuntime) {
 }
 
 // It is the folder "/srv/a".
-fn is_the_folder(rt: &impl Abort, store: &Location) {
+pub(crate) fn is_the_folder(rt: &impl Abort, store: &Location) {
     match store {
         Location::Folder(folder) => same(rt, folder.as_str(), "/srv/a"),
         Location::Http { .. } => rt.panic("a server"),
@@ -262,7 +260,7 @@ fn is_the_folder(rt: &impl Abort, store: &Location) {
 }
 
 // It is the server at this port of "localhost".
-fn is_a_server(rt: &impl Abort, store: &Location, at: u16) {
+pub(crate) fn is_a_server(rt: &impl Abort, store: &Location, at: u16) {
     match store {
         Location::Folder(_) => rt.panic("a folder"),
         Location::Http { host, port, prefix } => {
@@ -274,13 +272,18 @@ fn is_a_server(rt: &impl Abort, store: &Location, at: u16) {
 }
 
 // The store of this number in the group of this number.
-fn store_in<'g>(rt: &impl Abort, groups: &'g Groups, group: usize, store: usize) -> &'g Location {
+pub(crate) fn store_in<'g>(
+    rt: &impl Abort,
+    groups: &'g Groups,
+    group: usize,
+    store: usize,
+) -> &'g Location {
     let group = groups.as_slice().get(group).expect(rt, "a group");
     group.as_slice().get(store).expect(rt, "a store")
 }
 
-// There are so many stores in each group.
-fn have_sizes(rt: &impl Abort, groups: &Groups, sizes: &[usize]) {
+// There are this many stores in each group.
+pub(crate) fn have_sizes(rt: &impl Abort, groups: &Groups, sizes: &[usize]) {
     same(rt, groups.as_slice().len(), sizes.len());
     for (group, size) in groups.as_slice().iter().zip(sizes) {
         same(rt, group.as_slice().len(), *size);

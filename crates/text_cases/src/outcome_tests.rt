@@ -116,6 +116,7 @@ fn faulty_words_are_told_by_place_and_reason(rt: HostRuntime) {
     usage_is(&rt, alloc, UsageWhy::BadLocation, "desync: word 5: BadLocation\n");
     usage_is(&rt, alloc, UsageWhy::BadDigest, "desync: word 5: BadDigest\n");
     usage_is(&rt, alloc, UsageWhy::MissingOption, "desync: word 5: MissingOption\n");
+    usage_is(&rt, alloc, UsageWhy::ReadOnly, "desync: word 5: ReadOnly\n");
 }
 
 #[test]

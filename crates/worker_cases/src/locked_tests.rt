@@ -31,7 +31,7 @@ fn index_of(rt: &impl Abort, alloc: Global, pieces: &[&[u8]]) -> Index {
     Index::new(0xa000_0000_0000_0000, 1, 2, 64, entries).expect(rt, "an index")
 }
 
-// What a worker has done that put so many chunks, and read all of them back.
+// What a worker has done that put this many chunks, and read all of them back.
 fn all_put(count: usize) -> Done {
     Done {
         put: count,

@@ -4,10 +4,10 @@ use Rattle.std.specs.List.{fold}
 use Rattle.cache_command.proofs.AskedListings.{front_wider}
 use Rattle.cache_command.proofs.CacheFilled.{filled_between}
 use Rattle.cache_command.proofs.GivenChains.{all_consulted, all_dialed, all_given, chain_files, chain_stands, chain_tries, chains_stand}
-use Rattle.cache_command.proofs.LentChains.{chains_consult}
+use Rattle.command_groups.proofs.LentChains.{chains_consult}
 use Rattle.cache_command.proofs.cache.fill_between.Goals as goal
 use Rattle.cache_command.specs.Caching.{FilledBetween, FillsEach, of_calls}
-use Rattle.cache_command.specs.Chains.{CanGiveChain, chain_groups}
+use Rattle.command_groups.specs.Chains.{CanGiveChain, chain_groups}
 use Rattle.cache_command.specs.Filling.{AsksListings}
 use Rattle.cache_store.specs.Shelves.{shelf_of}
 use Rattle.command_groups.proofs.Stand.{sizes_stand}

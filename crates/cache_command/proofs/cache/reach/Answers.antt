@@ -8,7 +8,7 @@ use Rattle.command_groups.specs.Opened.{locations_in}
 use Rattle.command_steps.proofs.Cached.{cache_longer, cache_reads}
 use Rattle.command_steps.proofs.Consulted.{reads_twice}
 use Rattle.command_steps.proofs.Given.{all_later}
-use Rattle.cache_command.proofs.LentChains.{chains_later}
+use Rattle.command_groups.proofs.LentChains.{chains_later}
 use Rattle.command_steps.proofs.Used.{uses_twice}
 use Rattle.command_steps.specs.AnyStores.{IsKnown}
 use Rattle.command_steps.specs.Cache.{CacheOpened, with_cache}

@@ -9,6 +9,7 @@ turns-init g c = record {
   size = omega (arith, ap length c.new-waiting.ensures.items);
   stays = stays_none (g.S.Service.protocol (g.S.Service.setting c.args.desk.now)) c.new-waiting.result.items (g.K.Link.state c.args.link.now).traffic (g.S.Service.state c.args.desk.now) c.new-waiting.ensures.items;
   kept = refl;
+  changed = g.met.S.Service.leaves_none c.args.desk.now;
   served_faults = omega arith;
   given = refl;
   faults = refl;
@@ -20,6 +21,7 @@ turns-preserved g c = record {
   stays = stays_on (g.S.Service.protocol (g.S.Service.setting c.args.desk.now)) _ _ _ _ _ _ c.turns.invariant.stays
       (subst (λ (s : g.S.Service.Setting). Stays (g.S.Service.protocol s) (stream_in c.turns.waiting.items (g.K.Link.state c.turns.link).traffic) (g.S.Service.state c.turns.desk) (stream_in c.take_turn.new.waiting.items (g.K.Link.state c.take_turn.new.link).traffic) (g.S.Service.state c.take_turn.new.desk)) c.turns.invariant.kept (c.take_turn.ensures.open (c.in-Ok-true.is ∙ ap Ok c.in-Ok-true.field-0-test)));
   kept = c.take_turn.ensures.kept ∙ c.turns.invariant.kept;
+  changed = g.met.S.Service.leaves_more c.args.desk.now c.turns.desk c.take_turn.new.desk c.turns.invariant.changed c.take_turn.ensures.changed;
   served_faults = omega (arith, c.take_turn.ensures.served_faults, c.turns.invariant.served_faults);
   given = c.take_turn.ensures.given ∙ c.turns.invariant.given;
   faults = c.in-Ok-true.ensures.faults.done ∙ c.turns.invariant.faults;

@@ -25,6 +25,7 @@ links-init g c =
     let old = g.S.Service.state c.args.desk.now in
     record {
       kept = refl;
+      changed = g.met.S.Service.leaves_none c.args.desk.now;
       faults = c.bind.ensures.faults.never_falls;
       unfailed = search rules;
       listens = listens_none (g.S.Service.protocol (g.S.Service.setting c.args.desk.now)) (state c.args.listen.now) (state c.bind.new.self) old old (record { coming = c.bind.ensures.coming; ended = c.bind.ensures.ended }) refl;
@@ -39,6 +40,7 @@ links-preserved g c =
     let next = c.serve_next.ensures in
     record {
       kept = next.kept ∙ now.kept;
+      changed = g.met.S.Service.leaves_more c.args.desk.now c.links.desk c.serve_next.new.desk now.changed next.changed;
       faults = omega (arith, next.faults, now.faults);
       unfailed = c.in-Ok-true.ensures.unfailed (λ e. absurd (cc)) ∙ now.unfailed;
       listens = listens_more (g.S.Service.protocol (setting c.args.desk.now)) (state c.args.listen.now) (state c.links.listen) (state c.serve_next.new.listen) (desk c.args.desk.now) (desk c.links.desk) (desk c.serve_next.new.desk) now.listens

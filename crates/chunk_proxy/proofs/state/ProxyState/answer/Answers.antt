@@ -1,5 +1,6 @@
 use Rattle.chunk_proxy.proofs.Sought.{answered, lacking}
 use Rattle.chunk_proxy.proofs.Stepped.{err_more, ok_more, lost_stands, put_stands}
+use Rattle.chunk_proxy.specs.Leaving.{asks_none}
 use Rattle.chunk_server.specs.declared.chunk_file.ReadMethod.TheVariants as method
 use Rattle.chunk_proxy.proofs.state.ProxyState.answer.Goals as goal
 
@@ -30,3 +31,9 @@ returns-in-Put-clause-ok g c =
 pub returns-in-Lost-clause-ok : goal.returns-in-Lost-clause-ok
 returns-in-Lost-clause-ok g c =
     rw c.in-Lost.is (lost_stands _ _ (g.F.Look.files c.args.self.now.shelf.folder) c.args.self.now.chain.asks _ _ c.bare-in-Lost.ensures)
+
+pub returns-in-Put-clause-asks : goal.returns-in-Put-clause-asks
+returns-in-Put-clause-asks g c = asks_none g.S.Store c.args.self.now.chain.stores
+
+pub returns-in-Lost-clause-asks : goal.returns-in-Lost-clause-asks
+returns-in-Lost-clause-asks g c = asks_none g.S.Store c.args.self.now.chain.stores

@@ -1,9 +1,9 @@
 use Rattle.std.proofs.Common.{rules}
-use Rattle.cache_command.proofs.LentChains.{chains_later}
+use Rattle.command_groups.proofs.LentChains.{chains_later}
 use Rattle.command_steps.proofs.InTurn.{all_last, turn_last}
-use Rattle.cache_command.specs.Chains.{CanGiveChain, IsChainGiven}
+use Rattle.command_groups.specs.Chains.{CanGiveChain, IsChainGiven}
 use Rattle.command_steps.specs.Sources.{storage}
-use Rattle.cache_command.proofs.chains.+close_chains.Goals as goal
+use Rattle.command_groups.proofs.chains.+close_chains.Goals as goal
 
 pub close_chain-requires : goal.close_chain-requires
 close_chain-requires g t c =

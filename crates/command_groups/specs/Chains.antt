@@ -1,4 +1,4 @@
--- Chains of the groups of stores for further workers: how they are opened, and given back.
+-- Chains of groups of stores: how they are opened, and given back.
 use Rattle.std.specs.Prelude.{◌≡◌, ℕ, List, All, IfSome, map}
 use Rattle.std.specs.List.{fold}
 use Rattle.command_groups.specs.Groups.{stores_of}

@@ -1,13 +1,13 @@
 use Rattle.std.proofs.Common.{◌≡◌, [], rules, subst, List}
 use Rattle.command_steps.proofs.Consulted.{reads_twice}
-use Rattle.cache_command.proofs.LentChains.{chains_later}
+use Rattle.command_groups.proofs.LentChains.{chains_later}
 use Rattle.command_steps.proofs.InTurn.{all_last}
 use Rattle.command_steps.proofs.Used.{uses_twice}
-use Rattle.cache_command.specs.Chains.{CanGiveChain, chain_groups}
+use Rattle.command_groups.specs.Chains.{CanGiveChain, chain_groups}
 use Rattle.command_groups.specs.Groups.{stores_of}
 use Rattle.command_steps.specs.Uses.{Uses, folders_among}
 use Rattle.command_words.specs.declared.command.Location.{Location}
-use Rattle.cache_command.proofs.chains.+drop_chains.Goals as goal
+use Rattle.command_groups.proofs.chains.+drop_chains.Goals as goal
 
 pub drop_chain-requires : goal.drop_chain-requires
 drop_chain-requires g t c =

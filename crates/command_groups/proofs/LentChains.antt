@@ -1,6 +1,6 @@
 -- Chains that are opened, and given back.
 use Rattle.std.proofs.Common.{◌≡◌, ◌∙◌, ℕ, suc, List, [], ◌∷◌, slice_index_or, All, sym, ap, subst, arith}
-use Rattle.cache_command.specs.Chains.{CanGiveChain, IsChainGiven, IsChainOpened, chain_groups}
+use Rattle.command_groups.specs.Chains.{CanGiveChain, IsChainGiven, IsChainOpened, chain_groups}
 use Rattle.command_groups.specs.Groups.{stores_of}
 use Rattle.command_groups.specs.Opened.{files_in}
 use Rattle.command_steps.proofs.Given.{all_later}

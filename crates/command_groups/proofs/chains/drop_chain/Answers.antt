@@ -1,4 +1,4 @@
-use Rattle.cache_command.proofs.chains.drop_chain.Goals as goal
+use Rattle.command_groups.proofs.chains.drop_chain.Goals as goal
 
 pub drop_groups-requires : goal.drop_groups-requires
 drop_groups-requires g c = record { known = rw c.into_stores.ensures.value c.requires.given }

@@ -1,12 +1,12 @@
-use Rattle.std.proofs.Common.{[], arith}
+use Rattle.std.proofs.Common.{◌≡◌, [], arith}
 use Rattle.command_steps.proofs.Consulted.{reads_none, reads_twice}
-use Rattle.cache_command.proofs.LentChains.{chain_over, chains_over}
+use Rattle.command_groups.proofs.LentChains.{chain_over, chains_over}
 use Rattle.command_steps.proofs.InTurn.{put_last}
 use Rattle.command_steps.proofs.Used.{all_more, uses_twice}
-use Rattle.cache_command.specs.Chains.{IsChainOpened}
+use Rattle.command_groups.specs.Chains.{IsChainOpened}
 use Rattle.command_groups.specs.Groups.{stores_of}
 use Rattle.command_steps.specs.Uses.{folders_among}
-use Rattle.cache_command.proofs.chains.open_chains.Goals as goal
+use Rattle.command_groups.proofs.chains.open_chains.Goals as goal
 
 pub unwrap-requires : goal.unwrap-requires
 unwrap-requires g c =
@@ -26,16 +26,17 @@ loop-opened-preserved g c =
     let again = c.args.retries in
     let old = c.loop-opened.chains.items in
     let new = c.push.new.self.items in
-    let is = put_last old new c.in-Some.chain c.push.result c.unwrap.result c.unwrap.ensures c.push.ensures.items in
+    let is = put_last old new c.in-Ok-open_chain.chain c.push.result c.unwrap.result c.unwrap.ensures c.push.ensures.items in
     record {
-      opened = all_more (IsChainOpened look state d e groups again) old new c.in-Some.chain is
-          (chains_over look state d d b e (reads_none d) c.in-Some.ensures.kept groups again old inv.opened)
-          (chain_over look state d b e e inv.reads (reads_none e) groups again c.in-Some.chain c.in-Some.ensures.some);
+      opened = all_more (IsChainOpened look state d e groups again) old new c.in-Ok-open_chain.chain is
+          (chains_over look state d d b e (reads_none d) c.in-Ok-open_chain.ensures.kept groups again old inv.opened)
+          (chain_over look state d b e e inv.reads (reads_none e) groups again c.in-Ok-open_chain.chain c.in-Ok-open_chain.ensures.ok);
+      kinds = all_more (λ x. x.kind ≡ c.args.kind) old new c.in-Ok-open_chain.chain is inv.kinds c.in-Ok-open_chain.ensures.kind;
       few = omega (arith, inv.few, c.push.ensures.upper_bound);
       counted = omega (arith, c.loop-opened-test.true);
       room = omega (arith, inv.room, c.push.ensures.capacity);
-      reads = reads_twice d b e inv.reads c.in-Some.ensures.kept;
-      used = uses_twice [] (folders_among (stores_of groups)) d b e inv.used c.in-Some.ensures.used;
+      reads = reads_twice d b e inv.reads c.in-Ok-open_chain.ensures.kept;
+      used = uses_twice [] (folders_among (stores_of groups)) d b e inv.used c.in-Ok-open_chain.ensures.used;
     }
 
 pub returns-in_default-open_chain-clause-opened : goal.returns-in_default-open_chain-clause-opened

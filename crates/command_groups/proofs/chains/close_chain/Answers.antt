@@ -1,4 +1,4 @@
-use Rattle.cache_command.proofs.chains.close_chain.Goals as goal
+use Rattle.command_groups.proofs.chains.close_chain.Goals as goal
 
 pub close_groups-requires : goal.close_groups-requires
 close_groups-requires g c = record { known = rw c.into_stores.ensures.value c.requires.given }

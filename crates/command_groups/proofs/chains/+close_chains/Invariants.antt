@@ -1,5 +1,5 @@
 use Rattle.std.proofs.Common.{length}
-use Rattle.cache_command.proofs.chains.+close_chains.Given as goal
+use Rattle.command_groups.proofs.chains.+close_chains.Given as goal
 
 abbrev pub decreases-close_chains : goal.decreases-close_chains
 decreases-close_chains g l = length l.chains.items

@@ -1,15 +1,17 @@
-//! Chains of the groups of stores for the further workers, each with looks and dialers of its own.
+//! Chains of groups of stores for the workers of a command, each with looks and dialers of its own.
 
-ghost use Rattle.std.specs.Prelude.{◌≡◌, [], List, ◌-◌, ◌≤◌, All, IfSome, length, vec_len};
-ghost use Rattle.cache_command.specs.Chains.{CanGiveChain, IsChainGiven, IsChainOpened, chain_groups};
+ghost use Rattle.std.specs.Prelude.{◌≡◌, [], List, ◌-◌, ◌≤◌, All, IfErr, IfOk, OnOk, length, vec_len};
+ghost use Rattle.command_groups.specs.Chains.{CanGiveChain, IsChainGiven, IsChainOpened, chain_groups};
 ghost use Rattle.command_groups.specs.Groups.{AreGroups, stores_of};
-ghost use Rattle.command_steps.specs.Sources.{storage};
+ghost use Rattle.command_steps.specs.Sources.{AllThere, FirstUnreached, storage};
 ghost use Rattle.command_steps.specs.Turns.{GivenInTurn};
 ghost use Rattle.command_steps.specs.Uses.{Uses, folders_among};
 ghost use Rattle.command_worlds.specs.Worlds.{Reads};
 ghost use Rattle.command_words.specs.declared.command.Location.{Location};
 
-use command_groups::groups::{close_groups, drop_groups, open_groups};
+use crate::groups::{close_groups, drop_groups, open_groups};
+use chunk_store::id::DigestKind;
+use command_outcome::outcome::Outcome;
 use command_steps::any_store::AnyStore;
 use command_words::command::Locations;
 use dsy_base::dial::Dial;
@@ -18,32 +20,37 @@ use std::alloc::Global;
 use store_chain::chain::Chain;
 use store_group::group::Group;
 
-// Opens the groups of one chain.
-fn open_chain<F: Files, D: Dial>(
+/// Opens the groups of one chain, whose chunks are named by this digest.
+pub fn open_chain<F: Files, D: Dial>(
     alloc: Global,
     files: &mut F,
     dial: &D,
+    kind: DigestKind,
     groups: &[Locations],
     retries: u32,
-) -> Option<Chain<Group<AnyStore<F::Look, D>>>>
+) -> Result<Chain<Group<AnyStore<F::Look, D>>>, Outcome>
     requires groups { AreGroups groups.now retries }
-    ensures some { IfSome result
+    ensures there { OnOk result (AllThere (F.disk files.old) (stores_of groups.now)) }
+    ensures ok { IfOk result
         (IsChainOpened F.Look.Look D.state (F.disk files.old) (F.disk files.new) groups.now retries) }
+    ensures kind { IfOk result (λ c. c.kind ≡ kind) }
+    ensures err { IfErr result (FirstUnreached (F.disk files.old) (F.disk files.new) (stores_of groups.now)) }
     ensures kept { Reads (F.disk files.old) (F.disk files.new) }
     ensures used { Uses [] (folders_among (stores_of groups.now)) (F.disk files.old) (F.disk files.new) }
 {
     match open_groups(alloc, files, dial, groups, retries) {
-        Ok(opened) => Some(Chain::new(opened)),
-        Err(_) => None,
+        Ok(opened) => Ok(Chain::with_kind(kind, opened)),
+        Err(outcome) => Err(outcome),
     }
 }
 
 /// Opens the groups once more for each worker but the first. Where they can't be, for whatever reason, the command goes
 /// on with the chains that were opened before. No server is asked yet.
-pub(crate) fn open_chains<F: Files, D: Dial>(
+pub fn open_chains<F: Files, D: Dial>(
     alloc: Global,
     files: &mut F,
     dial: &D,
+    kind: DigestKind,
     groups: &[Locations],
     retries: u32,
     workers: usize,
@@ -51,6 +58,7 @@ pub(crate) fn open_chains<F: Files, D: Dial>(
     requires groups { AreGroups groups.now retries }
     ensures opened { All (IsChainOpened F.Look.Look D.state (F.disk files.old) (F.disk files.new) groups.now retries)
         result.items }
+    ensures kinds { All (λ c. c.kind ≡ kind) result.items }
     ensures few { vec_len result ≤ workers - 1 }
     ensures kept { Reads (F.disk files.old) (F.disk files.new) }
     ensures used { Uses [] (folders_among (stores_of groups.now)) (F.disk files.old) (F.disk files.new) }
@@ -59,7 +67,7 @@ pub(crate) fn open_chains<F: Files, D: Dial>(
         return Vec::new(alloc);
     };
     for _opened in 1..workers {
-        let Some(chain) = open_chain(alloc, files, dial, groups, retries) else {
+        let Ok(chain) = open_chain(alloc, files, dial, kind, groups, retries) else {
             return chains;
         };
         chains.push(chain).unwrap();
@@ -81,7 +89,7 @@ fn close_chain<F: Files, D: Dial>(
 }
 
 /// Gives all of them back, the last first, and joins what their servers' stores have dialed.
-pub(crate) fn close_chains<F: Files, D: Dial>(
+pub fn close_chains<F: Files, D: Dial>(
     files: &mut F,
     dial: &mut D,
     mut chains: Vec<Chain<Group<AnyStore<F::Look, D>>>>,
@@ -99,8 +107,8 @@ pub(crate) fn close_chains<F: Files, D: Dial>(
     }
 }
 
-// Lets one go that was never asked.
-fn drop_chain<F: Files, D: Dial>(files: &mut F, chain: Chain<Group<AnyStore<F::Look, D>>>)
+/// Lets one go that was never asked.
+pub fn drop_chain<F: Files, D: Dial>(files: &mut F, chain: Chain<Group<AnyStore<F::Look, D>>>)
     requires given { CanGiveChain F.Look.Look (F.disk files.old) chain }
     ensures kept { Reads (F.disk files.old) (F.disk files.new) }
     ensures used { Uses [] (folders_among (stores_of (chain_groups F.Look.Look chain)))
@@ -110,7 +118,7 @@ fn drop_chain<F: Files, D: Dial>(files: &mut F, chain: Chain<Group<AnyStore<F::L
 }
 
 /// Lets all of them go that were never asked.
-pub(crate) fn drop_chains<F: Files, D: Dial>(
+pub fn drop_chains<F: Files, D: Dial>(
     files: &mut F,
     mut chains: Vec<Chain<Group<AnyStore<F::Look, D>>>>,
 )
