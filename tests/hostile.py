@@ -508,6 +508,17 @@ def endless_replies(cases):
                 expect(peak < PEAK, f'the peak is {peak} KiB')
 
 
+def endless_indexes(cases):
+    """The same of an INDEX that is a URL. What tells no length has room for the longest index."""
+    for what, (front, piece, _) in ENDLESS.items():
+        with cases.case(f'a reply with an index has {what}') as folder:
+            with servers.Server(lambda peer, *_: endless(peer, front, piece)) as server:
+                url = server.url('/x')
+                ended, _, peak = program.run_measured(['list-chunks', url], folder)
+            expect_ended(ended, f'{url}: failed')
+            expect(peak < PEAK + (Indexes.most >> 10), f'the peak is {peak} KiB')
+
+
 ENDLESS_REQUESTS = {
     'no line end': (b'', b'G', b'431'),
     'header lines': (b'GET / HTTP/1.1\r\n', b'A: b\r\n', b'431'),
@@ -633,7 +644,7 @@ def main():
     print(f'hostile: seed {seed}, {count or ROUNDS} rounds', flush=True)
     cases = Cases('hostile')
     parts = parts_of(seed, count)
-    others = [(slow_peer,), (endless_replies,), (endless_requests,), (sizes,), (claims,)]
+    others = [(slow_peer,), (endless_replies,), (endless_indexes,), (endless_requests,), (sizes,), (claims,)]
     answers = cases.side_by_side([given for _, given in parts] + others)
     for kind in TOLD:
         expect_told(cases, kind, sum((told for (of, _), told in zip(parts, answers) if of == kind), Counter()))
