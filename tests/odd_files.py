@@ -403,9 +403,9 @@ def asked_paths(cases):
         put_file(place.path('st/.hidden.caibx'), ABC_INDEX)
         before = snapshot(folder)
         with IndexServer(folder, '-w') as server:
-            for target in ('/../a.caibx', '/up/a.caibx', '/..%2fa.caibx', '/%2e%2e/a.caibx', '//a.caibx', '/./../a.caibx',
-                           '/.hidden.caibx', '/\\..\\a.caibx', f'/{"a" * 249}.caibx', f'/{"a" * 123}.caibx',
-                           place.path('a.caibx'), '/a.caibx%00', '/А.caibx', '/..', '/...caibx'):
+            for target in ('/../a.caibx', '/up/a.caibx', '/..%2fa.caibx', '/%2e%2e/a.caibx', '//a.caibx',
+                           '/./../a.caibx', '/.hidden.caibx', '/\\..\\a.caibx', f'/{"a" * 249}.caibx',
+                           f'/{"a" * 123}.caibx', place.path('a.caibx'), '/a.caibx%00', '/А.caibx', '/..', '/...caibx'):
                 for sent in (request('GET', target), request('HEAD', target), put(target, EMPTY_INDEX)):
                     expect_equal(said_to(server, sent), Wanted(404).bytes, f'the reply to {sent}')
             for target in ('/../a.caibx\0', '/a\0.caibx', '/a.caibx\x7f'):
@@ -430,8 +430,8 @@ def main():
         cases.skip('a device at the path of a chunk, or of an index', 'no device can be made here')
     if has_no_size():
         AT_AN_INDEX['a link to a file in /proc'] = lambda path: os.symlink('/proc/version', path), 500, 200
-    for group in (at_a_chunk, at_an_index, at_a_folder, removed, no_size, folder_links, planted, listed_names, listed_ids,
-                  asked_paths):
+    for group in (at_a_chunk, at_an_index, at_a_folder, removed, no_size, folder_links, planted, listed_names,
+                  listed_ids, asked_paths):
         group(cases)
     return cases.end()
 
