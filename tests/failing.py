@@ -274,6 +274,7 @@ SCENES = {
     'cat': (['cat', '-s', 'st', '-o', '5', 'a.caibx'], no_change),
     'verify-index': (['verify-index', 'a.caibx', 'image'], no_change),
     'demo': (['demo', '-n', '3', '7', '300000'], no_change),
+    'help': (['prune', '--help'], no_change),
     'verify -r': (['verify', '-r', '-s', 'full'], lambda path, data: data is None and path in DAMAGED),
 }
 
