@@ -28,7 +28,7 @@ import program
 import servers
 from checks import Cases, Skip, expect, expect_ended, expect_equal, file_bytes, files_of, needs_program, put_file
 from replies import Wanted, path_of, put, request, to_the_end
-from servers import ChunkServer
+from servers import ChunkServer, IndexServer
 
 SOURCE = os.path.join(program.TOP, 'tests', 'failing_calls.c')
 # The errors of each call, in turn. With 0 the call does nothing and answers 0: a file ends early, or takes nothing.
@@ -274,6 +274,7 @@ SCENES = {
     'cat': (['cat', '-s', 'st', '-o', '5', 'a.caibx'], no_change),
     'verify-index': (['verify-index', 'a.caibx', 'image'], no_change),
     'demo': (['demo', '-n', '3', '7', '300000'], no_change),
+    'help': (['prune', '--help'], no_change),
     'verify -r': (['verify', '-r', '-s', 'full'], lambda path, data: data is None and path in DAMAGED),
 }
 
@@ -414,82 +415,122 @@ def server_is_asked_again(cases, shim, each, what, call):
 
 
 ABC = b'abc'
-ASKED = [(put(path_of(b'new'), b'new'), Wanted(200)), (request('GET', path_of(ABC)), Wanted(200, ABC)),
-         (request('HEAD', path_of(ABC)), Wanted(200, length=3)), (request('GET', path_of(b'none')), Wanted(404))]
 
 
-def talk(server):
-    """What the server says to the requests, however the connection ends."""
-    got = b''
-    with contextlib.suppress(OSError), server.connect() as peer:
-        for sent, _ in ASKED:
-            peer.sendall(sent)
-            got += peer.recv(65536)
-        peer.shutdown(1)
-        got += to_the_end(peer)
-    return got
+class Service:
+    """A server over the folder `st`, which holds one file, and what it is asked, with the replies. `is_right` says of a
+    path and its bytes whether they may stand there."""
+
+    def __init__(self, kind, held, asked, is_right):
+        self.kind = kind
+        self.held = held
+        self.asked = asked
+        self.is_right = is_right
+        self.whole = b''.join(wanted.bytes for _, wanted in asked)
+
+    def lay_out(self, folder):
+        store = os.path.join(folder, 'st')
+        shutil.rmtree(store, ignore_errors=True)
+        path, data = self.held
+        put_file(os.path.join(store, path), data)
+
+    def talk(self, server):
+        """What the server says to the requests, however the connection ends."""
+        got = b''
+        with contextlib.suppress(OSError), server.connect() as peer:
+            for sent, _ in self.asked:
+                peer.sendall(sent)
+                got += peer.recv(65536)
+            peer.shutdown(1)
+            got += to_the_end(peer)
+        return got
+
+    def could_say(self, got):
+        """Whether these bytes are a front of the replies, each of which may be 500 instead, too."""
+        fronts = {b''}
+        for _, wanted in self.asked:
+            fronts = {front + said for front in fronts for said in (wanted.bytes, Wanted(500).bytes)}
+        return any(front.startswith(got) for front in fronts)
+
+    def judge_store(self, folder, what):
+        for path, data in files_of(os.path.join(folder, 'st')).items():
+            expect(self.is_right(path, data), f'{what}: the store has {path}')
 
 
-def could_be(got):
-    """Whether these bytes are a front of the replies, each of which may be 500 instead, too."""
-    fronts = {b''}
-    for _, wanted in ASKED:
-        fronts = {front + said for front in fronts for said in (wanted.bytes, Wanted(500).bytes)}
-    return any(front.startswith(got) for front in fronts)
+def is_chunk(path, data):
+    return os.path.basename(path) == formats.digest_of(data).hex()
 
+
+NEW_INDEX = formats.spell_index(formats.index_of_pieces([b'new', ABC]))
+
+
+def is_index(path, data):
+    return (path, data) in [('a.caibx', formats.ABC_INDEX), ('new.caibx', NEW_INDEX)]
+
+
+CHUNKS = Service(
+    ChunkServer, (formats.path_in_store(formats.digest_of(ABC)), ABC),
+    [(put(path_of(b'new'), b'new'), Wanted(200)), (request('GET', path_of(ABC)), Wanted(200, ABC)),
+     (request('HEAD', path_of(ABC)), Wanted(200, length=3)), (request('GET', path_of(b'none')), Wanted(404))],
+    is_chunk)
+INDEXES = Service(
+    IndexServer, ('a.caibx', formats.ABC_INDEX),
+    [(put('/new.caibx', NEW_INDEX), Wanted(200)), (request('GET', '/a.caibx'), Wanted(200, formats.ABC_INDEX)),
+     (request('HEAD', '/a.caibx'), Wanted(200, length=len(formats.ABC_INDEX))),
+     (request('GET', '/none.caibx'), Wanted(404))],
+    is_index)
+# Each service with its further words.
+SERVICES = [(CHUNKS, ['-n', '1']), (CHUNKS, ['-n', '8']), (INDEXES, [])]
 
 SERVING = ('recv', 'send', 'pread', 'pwrite', 'open', 'stat', 'mkdir', 'rename', 'thread')
 
 
-def server_fails(cases, shim, workers, call):
-    with cases.case(f'chunk-server -n {workers}: each {call} fails once, and the next peer is served') as folder:
+def server_fails(cases, shim, service, words, call):
+    what = ' '.join([service.kind.command, *words])
+    with cases.case(f'{what}: each {call} fails once, and the next peer is served') as folder:
         # The first look is at the folder itself, before it is served.
         for at in range(1 if call == 'stat' else 0, 12):
-            if not served(folder, shim, workers, call, at):
+            if not served(folder, shim, service, words, call, at):
                 break
 
 
-def served(folder, shim, workers, call, at):
+def served(folder, shim, service, words, call, at):
     """Whether the call has failed. However that is, the next peer is served, and what stands in the store is right."""
     told = os.path.join(folder, 'told')
-    shutil.rmtree(os.path.join(folder, 'st'), ignore_errors=True)
-    formats.write_chunk(os.path.join(folder, 'st'), formats.digest_of(ABC), ABC)
+    service.lay_out(folder)
     put_file(told, b'')
     error = errno.EAGAIN if call == 'thread' else HARD[call][at % len(HARD[call])]
     environment = shim.environment(call, at, error, False, told)
-    whole = b''.join(wanted.bytes for _, wanted in ASKED)
-    with ChunkServer(folder, '-w', '-n', workers, environment=environment) as server:
-        got = talk(server)
-        expect(could_be(got), f'{call} {at}: the replies are {got}')
-        while call != 'thread' and file_bytes(told) and got != whole:
-            got = talk(server)
-            expect_equal(got, whole, f'{call} {at}: the next replies')
-    for path, data in files_of(os.path.join(folder, 'st')).items():
-        expect(os.path.basename(path) == formats.digest_of(data).hex(), f'{call} {at}: the store has {path}')
+    with service.kind(folder, '-w', *words, environment=environment) as server:
+        got = service.talk(server)
+        expect(service.could_say(got), f'{call} {at}: the replies are {got}')
+        while call != 'thread' and file_bytes(told) and got != service.whole:
+            got = service.talk(server)
+            expect_equal(got, service.whole, f'{call} {at}: the next replies')
+    service.judge_store(folder, f'{call} {at}')
     return file_bytes(told)
 
 
-def server_without_memory(cases, shim, workers, turn):
+def server_without_memory(cases, shim, service, words, turn):
     """A server that gets no memory once answers rightly as far as it does; it ends and says why, or serves on."""
-    with cases.case(f'chunk-server -n {workers}: memory is refused each time once, turn {turn} of {TURNS}') as folder:
+    what = ' '.join([service.kind.command, *words])
+    with cases.case(f'{what}: memory is refused each time once, turn {turn} of {TURNS}') as folder:
         for at in range(turn, MOST, TURNS):
-            if not served_without_memory(folder, shim, workers, at):
+            if not served_without_memory(folder, shim, service, words, at):
                 break
 
 
-def served_without_memory(folder, shim, workers, at):
+def served_without_memory(folder, shim, service, words, at):
     told, port = os.path.join(folder, 'told'), servers.free_port()
-    shutil.rmtree(os.path.join(folder, 'st'), ignore_errors=True)
-    formats.write_chunk(os.path.join(folder, 'st'), formats.digest_of(ABC), ABC)
+    service.lay_out(folder)
     put_file(told, b'')
-    server = ChunkServer(folder, port=port)
-    words = ['chunk-server', '-w', '-n', workers, '-s', 'st', '-l', f'127.0.0.1:{port}']
-    process = program.start(words, folder, shim.environment('memory', at, errno.ENOMEM, False, told))
+    server = service.kind(folder, '-w', *words, port=port)
+    process = program.start(server.words, folder, shim.environment('memory', at, errno.ENOMEM, False, told))
     try:
-        got = first_said(server, process)
-        expect(b''.join(wanted.bytes for _, wanted in ASKED).startswith(got), f'{at}: the replies are {got}')
+        got = first_said(service, server, process)
+        expect(service.whole.startswith(got), f'{at}: the replies are {got}')
         for _ in range(2):
-            talk(server)
+            service.talk(server)
     finally:
         has_ended = process.poll() is not None
         process.terminate()
@@ -497,16 +538,14 @@ def served_without_memory(folder, shim, workers, at):
     if has_ended:
         expect_equal(ended.status, 1, f'{at}: the status')
         expect(ended.err in (b'', NO_MEMORY), f'{at}: the error line is {ended.err}')
-    for path, data in files_of(os.path.join(folder, 'st')).items():
-        name = formats.digest_of(data).hex()
-        expect(os.path.basename(path) == name, f'{at}: the store has {path}')
+    service.judge_store(folder, at)
     return file_bytes(told)
 
 
-def first_said(server, process):
+def first_said(service, server, process):
     """What is said to the first peer; nothing, if the process has ended before."""
     for _ in range(20 * servers.SECONDS):
-        got = talk(server)
+        got = service.talk(server)
         if got or process.poll() is not None:
             return got
         time.sleep(0.01)
@@ -520,7 +559,7 @@ def accepting_fails(cases, shim):
             os.mkdir(os.path.join(top, 'st'))
             environment = shim.environment('accept', 0, error, False, os.path.join(top, 'told'))
             with ChunkServer(top, environment=environment) as server:
-                got = talk(server)
+                got = CHUNKS.talk(server)
                 expect(got.startswith(b'HTTP/1.1 405'), f'the reply is {got}')
             expect(file_bytes(os.path.join(top, 'told')), 'no call has failed')
     for workers in ('1', '8'):
@@ -563,7 +602,7 @@ def is_stopped(cases):
         with cases.case(f'chunk-server -n {workers} is stopped and goes on while a request comes slowly') as folder:
             formats.write_chunk(os.path.join(folder, 'st'), formats.digest_of(ABC), ABC)
             with ChunkServer(folder, '-w', '-n', workers) as server:
-                for sent, wanted in ASKED:
+                for sent, wanted in CHUNKS.asked:
                     expect_equal(said_while_stopped(server, sent), wanted.bytes, 'the reply')
 
 
@@ -696,11 +735,11 @@ def parts(shim, each):
         return small
     of_files = [call for call in HARD if call not in NETWORK]
     return [
-        *((server_without_memory, shim, workers, turn) for workers in ('1', '8') for turn in range(TURNS)),
+        *((server_without_memory, shim, *service, turn) for service in SERVICES for turn in range(TURNS)),
         *((refused_memory, shim, what, more) for what in SCENES for more in (False, True)),
         *((server_is_asked, shim, each, what, call) for what in ASKING for call in NETWORK),
         *((server_is_asked_again, shim, each, what, call) for what in ASKING_AGAIN for call in NETWORK),
-        *((server_fails, shim, workers, call) for workers in ('1', '8') for call in SERVING),
+        *((server_fails, shim, *service, call) for service in SERVICES for call in SERVING),
         *small,
         *((one_call_fails, shim, each, what, call) for what in SCENES for call in of_files),
         *((disk_is_full, shim, what) for what in ('extract', 'extract -k', 'extract -c', 'make -n 1', 'chop', 'cache')),

@@ -1,7 +1,7 @@
 #!/usr/bin/env python3
 """Random bytes at the program: indexes, requests, replies, words and locations that were right and then changed.
 
-    tests/hostile.py                        as many rounds as take half a minute
+    tests/hostile.py                        10,000 rounds
     tests/hostile.py --rounds N [--seed S]  N rounds of each kind, from a seed
 
 Each answer is compared with tests/formats.py and tests/replies.py. The seed is printed, so that a round that has failed
@@ -27,11 +27,13 @@ import program
 import servers
 import words
 from checks import Cases, expect, expect_ended, expect_equal, file_bytes, files_of, needs_program, put_file
-from replies import (LIMIT, RandomRequest, expect_serves, lay_out, path_of, put, replies_to, reply_given, request,
-                     said_to)
-from servers import ChunkServer, in_chunks, reply, to_the_end
+from replies import (LIMIT, Indexes, RandomRequest, expect_serves, lay_out, path_of, put, replies_to, reply_given,
+                     request, said_to)
+from servers import ChunkServer, IndexServer, in_chunks, reply, to_the_end
 
-ROUNDS = {'indexes': 1_000, 'requests': 3_000, 'replies': 800, 'words': 600, 'locations': 200}
+# They are 10,000 in all.
+ROUNDS = {'indexes': 1_800, 'requests': 4_000, 'requests for indexes': 800, 'replies': 1_400,
+          'replies with indexes': 600, 'words': 1_000, 'locations': 400}
 # Rounds of a case, and of a process that does some of a kind.
 CASE = 50
 PART = 200
@@ -100,7 +102,7 @@ def changed(chance, data, parts=()):
 # Indexes
 
 def random_index(chance):
-    """The bytes of an index, most of which is right, and the image that it had listed."""
+    """The bytes of an index, most of which is right, and the image that it had listed, with its pieces."""
     pieces = [chance.randbytes(chance.randint(1, 60)) for _ in range(chance.randint(0, 5))]
     pieces += chance.choices(pieces, k=chance.randint(0, 2)) if pieces else []
     index = formats.index_of_pieces(pieces)
@@ -217,6 +219,51 @@ def requests(rounds, workers, at_once):
             expect_small(server)
 
 
+# Requests for indexes
+
+LISTS_ABC = formats.ABC_INDEX
+LISTS_TWO = formats.spell_index(formats.index_of_pieces([b'a', b'bb']))
+SERVED = {'/a.caibx': LISTS_ABC, '/b.caibx': LISTS_TWO}
+TARGETS = ['/a.caibx'] * 5 + ['/b.caibx', '/new.caibx', '/text.caibx', '/', '/a', '/.caibx', '/../a.caibx', '/A.CAIBX',
+                              '/./a.caibx', '/a.caibx/', '/%61.caibx', f'/{"x" * 122}.caibx', f'/{"x" * 123}.caibx']
+
+
+def random_asks(chance):
+    """The bytes of some requests for indexes, changed."""
+    sent = b''
+    for _ in range(chance.randint(1, 4)):
+        method, target = chance.choice(['GET', 'GET', 'HEAD', 'PUT', 'PUT', 'PUT', 'POST']), chance.choice(TARGETS)
+        body = chance.choice([LISTS_ABC, LISTS_TWO, LISTS_ABC[:-1], LISTS_TWO + b'\0', changed(chance, LISTS_ABC), b''])
+        sent += put(target, body) if method == 'PUT' else request(method, target)
+    return changed(chance, sent, WORDS_OF_HEADS) if chance.random() < .8 else sent
+
+
+def requests_for_indexes(rounds):
+    """Each round begins with the same files, and with one that is no index."""
+    cases = rounds.cases
+    folder = os.path.join(cases.top, f'requests for indexes {rounds.firsts[0]}')
+    begun = {path[1:]: data for path, data in [*SERVED.items(), ('/text.caibx', b'text')]}
+    store = os.path.join(folder, 'st')
+    for name, data in begun.items():
+        put_file(os.path.join(store, name), data)
+    with IndexServer(folder, '-w') as server:
+        def talk(chance, _):
+            sent, held = random_asks(chance), dict(SERVED)
+            wanted = replies_to(sent, held, True, Indexes)
+            expect_equal(said_to(server, sent), wanted, f'what is said to {sent[:3_000]!r}')
+            rounds.told.update(re.findall(rb'^HTTP/1.1 ([0-9]+) ', wanted, re.MULTILINE) or [b'none'])
+            left = begun | {path[1:]: data for path, data in held.items()}
+            expect(files_of(store) == left, f'the folder has other files after {sent[:3_000]!r}')
+            for path in held:
+                os.remove(os.path.join(store, path[1:]))
+            for name, data in begun.items():
+                put_file(os.path.join(store, name), data)
+
+        rounds.run('requests for indexes', talk)
+        with cases.case('the memory of a server of indexes after random requests'):
+            expect_small(server)
+
+
 # Replies
 
 PIECE = b'a chunk of some bytes'
@@ -297,6 +344,38 @@ def answered(command, folder, url, given):
         text = 'store 0 failed' if given['GET'] == 'failed' or is_put and given['PUT'] == 'failed' else ''
         given_words = {'make': ['made.caibx', 'image', '-n', '1'], 'chop': ['a.caibx', 'image']}[command]
         expect_ended(run_small([command, '-s', url, *given_words], folder), text)
+
+
+def replies_with_indexes(rounds):
+    """An INDEX that is a URL, to which a changed reply comes that has a changed index."""
+    scripted = Scripted()
+    with scripted.server as server:
+        def one(chance, folder):
+            data, image, pieces = random_index(chance)
+            scripted.said = {'GET': random_reply(chance, data)}
+            given = reply_given(scripted.said['GET'], 'GET', Indexes.most)
+            rounds.told[given if isinstance(given, str) else 'a body'] += 1
+            try:
+                reads_from(server.url('/x'), chance, folder, given, image)
+            except AssertionError as why:
+                raise AssertionError(f'to which is said {scripted.said}: {why}') from why
+
+        rounds.run('replies with indexes', one)
+
+
+def reads_from(url, chance, folder, given, image):
+    """A command reads the index that the reply gives."""
+    if isinstance(given, bytes):
+        index, text = formats.read_text(given, url)
+    else:
+        index, text = None, f'{url}: {"no such file" if given == "missing" else "failed"}'
+    command = chance.choice(['list-chunks', 'info', 'verify-index'])
+    put_file(os.path.join(folder, 'image'), image)
+    if command == 'verify-index':
+        text = text or formats.checked(index, image)
+    out = {'list-chunks': formats.listed, 'info': formats.figures}.get(command, lambda index: '')
+    ended = program.run([command, url, *['image'] * (command == 'verify-index')], folder)
+    expect_ended(ended, text, '' if text else out(index), command)
 
 
 # Words
@@ -429,6 +508,17 @@ def endless_replies(cases):
                 expect(peak < PEAK, f'the peak is {peak} KiB')
 
 
+def endless_indexes(cases):
+    """The same of an INDEX that is a URL. What tells no length has room for the longest index."""
+    for what, (front, piece, _) in ENDLESS.items():
+        with cases.case(f'a reply with an index has {what}') as folder:
+            with servers.Server(lambda peer, *_: endless(peer, front, piece)) as server:
+                url = server.url('/x')
+                ended, _, peak = program.run_measured(['list-chunks', url], folder)
+            expect_ended(ended, f'{url}: failed')
+            expect(peak < PEAK + (Indexes.most >> 10), f'the peak is {peak} KiB')
+
+
 ENDLESS_REQUESTS = {
     'no line end': (b'', b'G', b'431'),
     'header lines': (b'GET / HTTP/1.1\r\n', b'A: b\r\n', b'431'),
@@ -523,7 +613,8 @@ def parts_of(seed, count):
     for workers, at_once in (('1', 1), ('8', 8)):
         upto = count or ROUNDS['requests'] // at_once // 2
         parts.append(('requests', (part, seed, range(0, upto, CASE), upto, requests, workers, at_once)))
-    for kind, function in (('indexes', indexes), ('replies', replies), ('words', random_words),
+    for kind, function in (('indexes', indexes), ('replies', replies), ('requests for indexes', requests_for_indexes),
+                           ('replies with indexes', replies_with_indexes), ('words', random_words),
                            ('locations', locations)):
         upto = count or ROUNDS[kind]
         for first in range(0, upto, PART):
@@ -535,7 +626,9 @@ def parts_of(seed, count):
 TOLD = {
     'indexes': [fault for fault in formats.FAULT_TEXTS if fault != 'Items'] + ['right'],
     'requests': [b'200', b'400', b'404', b'405', b'411', b'413', b'431', b'none'],
+    'requests for indexes': [b'200', b'400', b'404', b'405', b'411', b'431', b'none'],
     'replies': ['a body', 'failed', 'longer', 'missing', 'taken'],
+    'replies with indexes': ['a body', 'failed', 'missing'],
 }
 
 
@@ -551,7 +644,7 @@ def main():
     print(f'hostile: seed {seed}, {count or ROUNDS} rounds', flush=True)
     cases = Cases('hostile')
     parts = parts_of(seed, count)
-    others = [(slow_peer,), (endless_replies,), (endless_requests,), (sizes,), (claims,)]
+    others = [(slow_peer,), (endless_replies,), (endless_indexes,), (endless_requests,), (sizes,), (claims,)]
     answers = cases.side_by_side([given for _, given in parts] + others)
     for kind in TOLD:
         expect_told(cases, kind, sum((told for (of, _), told in zip(parts, answers) if of == kind), Counter()))

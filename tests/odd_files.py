@@ -19,7 +19,7 @@ from checks import (Cases, Skip, expect, expect_ended, expect_equal, expect_unto
                     needs_program, put_file, snapshot)
 from formats import ABC_INDEX, EMPTY_INDEX
 from replies import ABC, PATH, Wanted, put, refused, request, said_to
-from servers import ChunkServer
+from servers import ChunkServer, IndexServer
 
 CHUNK = 'st' + PATH
 DIGITS = os.path.basename(PATH)
@@ -128,6 +128,40 @@ def at_a_chunk(cases):
             expect_untouched(before, snapshot(folder))
 
 
+# What `index-server` replies to GET and to PUT where this stands at the path of an index.
+AT_AN_INDEX = {
+    'a pipe': (os.mkfifo, 500, 200),
+    'a socket': (bind, 500, 200),
+    'a folder': (os.mkdir, 500, 500),
+    'a folder with a file': (make_folder_with_file, 500, 500),
+    'a link to a device': (lambda path: os.symlink('/dev/zero', path), 500, 200),
+    'a link to a folder': (lambda path: os.symlink('..', path), 500, 200),
+    'a link to itself': (lambda path: os.symlink('x.caibx', path), 500, 200),
+    'a link to nothing': (lambda path: os.symlink('nothing', path), 404, 200),
+    'a link to an index': (lambda path: os.symlink('../a.caibx', path), 200, 200),
+    'a link to other bytes': (lambda path: os.symlink('../precious', path), 404, 200),
+}
+
+
+def at_an_index(cases):
+    """A PUT takes the place of a link, and not of what it leads to; a folder alone stays."""
+    for what, (make, got, taken) in AT_AN_INDEX.items():
+        with cases.case(f'at the path of an index stands {what}') as folder:
+            place = Place(folder)
+            make(place.path('st/x.caibx'))
+            before = snapshot(folder)
+            with IndexServer(folder, '-w') as server:
+                wanted = Wanted(200, ABC_INDEX) if got == 200 else Wanted(got)
+                expect_equal(said_to(server, request('GET', '/x.caibx')), wanted.bytes, 'the reply')
+                expect_equal(said_to(server, put('/x.caibx', b'no index')), Wanted(400).bytes, 'the reply')
+                expect_untouched(before, snapshot(folder))
+                expect_equal(said_to(server, put('/x.caibx', EMPTY_INDEX)), Wanted(taken).bytes, 'the reply to a PUT')
+            expect_untouched(before, snapshot(folder), ['st', 'st/x.caibx'] if taken == 200 else ['st'])
+            if taken == 200:
+                expect_equal(place.bytes('st/x.caibx'), EMPTY_INDEX, 'the index')
+                expect(not os.path.islink(place.path('st/x.caibx')), 'the link is left')
+
+
 # What stands in the place of a chunk's folder, and what extract says.
 AT_A_FOLDER = {
     'a file': (lambda path: put_file(path, b'file'), MISSING),
@@ -192,10 +226,14 @@ def removed(cases):
         place.ends('cache -s all -c st a.caibx', 'the cache failed')
 
 
+def has_no_size():
+    return os.path.isfile('/proc/version') and os.path.getsize('/proc/version') == 0
+
+
 def no_size(cases):
     """A file that has bytes, of which the system says that it has none."""
     with cases.case('IMAGE, INDEX or a chunk is a file in /proc') as folder:
-        if not os.path.isfile('/proc/version') or os.path.getsize('/proc/version') != 0:
+        if not has_no_size():
             raise Skip('there is no /proc/version of size 0')
         place = Place(folder)
         place.link('/proc/version', 'version')
@@ -359,6 +397,21 @@ def asked_paths(cases):
                 for sent in (request('GET', target), put(target, ABC)):
                     expect_equal(said_to(server, sent), refused(400).bytes, f'the reply to {sent}')
         expect_untouched(before, snapshot(folder))
+    with cases.case('no path of an index that is asked for or put leads out of the folder') as folder:
+        place = Place(folder)
+        place.link('..', 'st/up')
+        put_file(place.path('st/.hidden.caibx'), ABC_INDEX)
+        before = snapshot(folder)
+        with IndexServer(folder, '-w') as server:
+            for target in ('/../a.caibx', '/up/a.caibx', '/..%2fa.caibx', '/%2e%2e/a.caibx', '//a.caibx',
+                           '/./../a.caibx', '/.hidden.caibx', '/\\..\\a.caibx', f'/{"a" * 249}.caibx',
+                           f'/{"a" * 123}.caibx', place.path('a.caibx'), '/a.caibx%00', '/А.caibx', '/..', '/...caibx'):
+                for sent in (request('GET', target), request('HEAD', target), put(target, EMPTY_INDEX)):
+                    expect_equal(said_to(server, sent), Wanted(404).bytes, f'the reply to {sent}')
+            for target in ('/../a.caibx\0', '/a\0.caibx', '/a.caibx\x7f'):
+                for sent in (request('GET', target), put(target, EMPTY_INDEX)):
+                    expect_equal(said_to(server, sent), refused(400).bytes, f'the reply to {sent}')
+        expect_untouched(before, snapshot(folder))
     with cases.case('the path of a location doesn\'t lead above the server\'s') as folder:
         place = Place(folder)
         for path in ('/a/../../b', '/a/%2e%2e/b', '/a/.%2E/./b', '/b/'):
@@ -372,10 +425,13 @@ def main():
     cases = Cases('odd_files')
     if can_make_devices():
         AT_A_CHUNK['a device'] = make_device, FAILED, FAILED, FAILED, ''
+        AT_AN_INDEX['a device'] = make_device, 500, 200
     else:
-        cases.skip('a device at the path of a chunk', 'no device can be made here')
-    for group in (at_a_chunk, at_a_folder, removed, no_size, folder_links, planted, listed_names, listed_ids,
-                  asked_paths):
+        cases.skip('a device at the path of a chunk, or of an index', 'no device can be made here')
+    if has_no_size():
+        AT_AN_INDEX['a link to a file in /proc'] = lambda path: os.symlink('/proc/version', path), 500, 200
+    for group in (at_a_chunk, at_an_index, at_a_folder, removed, no_size, folder_links, planted, listed_names,
+                  listed_ids, asked_paths):
         group(cases)
     return cases.end()
 

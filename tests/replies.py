@@ -481,7 +481,7 @@ class RandomRequest:
             self.wanted = Wanted(200, piece if method == 'GET' else b'', len(piece), closes)
 
     @staticmethod
-    def refusal(method, lines, takes):
+    def refusal(method, lines, takes, most=64 * MIB):
         if method not in ('GET', 'HEAD', 'PUT') or method == 'PUT' and not takes:
             return 405
         if values(lines, 'transfer-encoding'):
@@ -493,7 +493,7 @@ class RandomRequest:
             return 400 if any(map(int, lengths)) else None
         if not lengths:
             return 411
-        return 413 if int(lengths[0]) > 64 * MIB else None
+        return 413 if int(lengths[0]) > most else None
 
 
 def values(lines, name):
@@ -536,13 +536,43 @@ def read_head(head):
         return None
 
 
-def reply_to(head, rest, held, takes):
+class Chunks:
+    """What `chunk-server` has under its paths: chunks, of at most so many bytes."""
+    most = 64 * MIB
+
+    @staticmethod
+    def path(target):
+        """The path of what a target names, or None."""
+        path = target.lower()
+        is_path = re.fullmatch('/([0-9a-fA-F]{4})/([0-9a-fA-F]{64})', target) and path[1:5] == path[6:10]
+        return path if is_path else None
+
+    @staticmethod
+    def is_right(path, body):
+        """Whether the body may be put there."""
+        return formats.digest_of(body).hex() == path[6:]
+
+
+class Indexes:
+    """The same of `index-server`."""
+    most = 167_772_264
+
+    @staticmethod
+    def path(target):
+        return target if re.fullmatch(r'/(?=.{1,128}$)[A-Za-z0-9_-][A-Za-z0-9._-]*\.caibx', target) else None
+
+    @staticmethod
+    def is_right(path, body):
+        return formats.fault_of(body) is None
+
+
+def reply_to(head, rest, held, takes, kind):
     """The reply to a request, and how many bytes its body has; None where the body isn't whole."""
     read = read_head(head)
     if read is None:
         return refused(400), 0
     method, target, is_old, lines = read
-    status = RandomRequest.refusal(method, lines, takes)
+    status = RandomRequest.refusal(method, lines, takes, kind.most)
     if status is not None:
         return refused(status), 0
     closes = is_old or any(word.strip(' \t').lower() == 'close' for value in values(lines, 'connection')
@@ -550,26 +580,25 @@ def reply_to(head, rest, held, takes):
     size = int(values(lines, 'content-length')[0]) if method == 'PUT' else 0
     if len(rest) < size:
         return None, 0
-    path, body = target.lower(), rest[:size]
-    is_path = re.fullmatch('/([0-9a-fA-F]{4})/([0-9a-fA-F]{64})', target) and path[1:5] == path[6:10]
-    if not is_path or method != 'PUT' and path not in held:
+    path, body = kind.path(target), rest[:size]
+    if path is None or method != 'PUT' and path not in held:
         return Wanted(404, closes=closes), size
     if method == 'PUT':
-        is_right = formats.digest_of(body).hex() == path[6:]
+        is_right = kind.is_right(path, body)
         if is_right:
             held[path] = body
         return Wanted(200 if is_right else 400, closes=closes), size
     return Wanted(200, held[path] if method == 'GET' else b'', len(held[path]), closes), size
 
 
-def replies_to(data, held, takes):
-    """All that is said on a connection to which these bytes come, and then its end. `held` are the chunks by path."""
+def replies_to(data, held, takes, kind=Chunks):
+    """All that is said on a connection to which these bytes come, and then its end. `held` is what is there by path."""
     said = b''
     while True:
         end = head_of(data)
         if end is None:
             return said + (refused(431).bytes if len(data) >= LIMIT else b'')
-        wanted, size = reply_to(data[:end], data[end:], held, takes)
+        wanted, size = reply_to(data[:end], data[end:], held, takes, kind)
         if wanted is None:
             return said
         said += wanted.bytes
