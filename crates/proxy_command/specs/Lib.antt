@@ -1,1 +1,2 @@
 pub mod ProxyServing
+pub mod Reaching

@@ -1,0 +1,4 @@
+pub mod Lent
+pub mod InTurn
+pub mod Back
+pub mod Steps
