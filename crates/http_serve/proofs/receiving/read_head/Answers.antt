@@ -1,8 +1,6 @@
 use Rattle.std.proofs.Common.{◌≡◌, List, ℕ, ◌++◌, take, sym, subst, ◌∙◌, Result, Ok, Err}
 use Rattle.std.specs.Prelude.{IfOk}
 use Rattle.std.proofs.lemmas.List.{take-append-le}
-use Rattle.http_frames.specs.HeadEnd.{IsFirstEnd}
-use Rattle.http_serve.specs.Requests.{IsRequestHead}
 use Rattle.http_serve.proofs.receiving.read_head.Goals as goal
 
 ok_more : {A E : Type 0} {P Q : A → Type 0} (r : Result A E) → ((x : A) → P x → Q x) → IfOk r P → IfOk r Q

@@ -2,8 +2,6 @@ use Rattle.std.proofs.Common.{ℕ, ◌≤◌, List, ◌++◌, length, Option, So
 use Rattle.std.specs.Prelude.{IfOk, IfSome}
 use Rattle.http_frames.specs.HeadEnd.{IsFirstEnd, head_limit}
 use Rattle.http_serve.specs.Coming.{ComesFirst}
-use Rattle.http_serve.specs.Protocols.{Asked}
-use Rattle.http_serve.specs.Received.{asked_of}
 use Rattle.http_serve.specs.Requests.{IsRequestHead}
 use Rattle.http_serve.specs.Streams.{stream_in}
 use Rattle.http_serve.proofs.Nexts.{endless_next, whole_next}
