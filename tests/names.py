@@ -34,7 +34,6 @@ SHARED = {name: ({f'chunk_server.{here}', f'http_serve.{there}'}, 'said of any r
                                                          'files_left', 'replies', 'turns_of')))
           for name in names}
 SHARED |= {
-    'IsUnfailed': ({'chunk_server.Shelves', 'index_server.Answers'}, 'said of chunks, and of indexes'),
     'told_files': ({'chunk_proxy.States', 'command_groups.Opened'}, 'said of a cache, and of a group of stores'),
     'files_in': ({'command_groups.Opened', 'forms.Files'}, 'said of a group of stores, and of folders in memory'),
     'AreUnused': ({'assembler.OneKit', 'command_groups.Opened'}, 'said of seeds and stores of a kit, and of a group'),

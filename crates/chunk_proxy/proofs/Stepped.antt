@@ -57,7 +57,7 @@ module _ (kind : DigestKind) (maps : List (Map (List ℕ))) (a : Act) where
     lingers true (Some m) same f =
         let h = f refl m (sym same) in
         subst (λ (e : Option (Map (List ℕ))). LacksThrough kind maps (record { files = Some (told m x); faults = 0 }) a (record { files = told_files true e y; faults = 0 })) (sym h.is)
-        (record { files = h.alike; faults = omega arith })
+        (record { files = h.alike; unfailed = refl })
 
     -- a request that changes nothing
     pub stands : (r : Answer) (sure : Bool) (o : Option (Map (List ℕ))) → o ≡ c → d ≡ c → y ≡ x → ((f : ProxyFiles) → proxy_answer kind maps f a ≡ r) → ((f : ProxyFiles) → proxy_after kind maps f a ≡ f)

@@ -1,5 +1,5 @@
 -- How a chunk's file is read, and how a request is answered by it.
-use Rattle.std.specs.Prelude.{◌≡◌, ℕ, List, Option, IfSome}
+use Rattle.std.specs.Prelude.{◌≡◌, ◌≢◌, ℕ, List, Err, Option, IfSome}
 use Rattle.chunk_server.specs.Answers.{Answer, with_chunk, with_length}
 use Rattle.chunk_server.specs.FileReads.{FileRead}
 use Rattle.chunk_server.specs.Shelves.{ServedFolder}
@@ -17,6 +17,7 @@ use Rattle.http_wire.specs.declared.request.Act.TheVariants as act
 pub record ReadsFile (id : List ℕ) (old : ServedFolder) (file : FileRead) (new : ServedFolder) : Type 0 where
   pub bytes : IfSome old.files (λ m. GetGives (chunks m id) file.outcome file.bytes)
   pub kept : new.files ≡ old.files
+  pub unfailed : file.outcome ≢ Err get.Failed → new.faults ≡ old.faults
   pub faults : CountsCause get.Failed old.faults new.faults file.outcome
 
 -- what is asked for by this method

@@ -35,14 +35,6 @@ ServesOrFails kind old a body r new =
 abbrev pub StepLacksMemory : DigestKind → ServedFolder → Act → List ℕ → ServedFolder → Type 0
 StepLacksMemory kind old a body new = RunsShort (λ m. files_after kind m a body) AreTemporariesApart old new
 
--- no call on the folder has failed. Where a file is read it isn't known: that may take more than one call
-abbrev pub IsUnfailed : ServedFolder → Act → ServedFolder → Type 0
-IsUnfailed old (act.Get id) new = Unit {0}
-IsUnfailed old (act.Head id) new = Unit {0}
-IsUnfailed old (act.Put id) new = new.faults ≡ old.faults
-IsUnfailed old act.Lost new = new.faults ≡ old.faults
-IsUnfailed old (act.Refuse status) new = new.faults ≡ old.faults
-
 -- a status that tells of no chunk
 abbrev pub IsBare : Answer → Type 0
 IsBare r = (r ≡ bare 400) ⊎ ((r ≡ bare 404) ⊎ (r ≡ bare 500))

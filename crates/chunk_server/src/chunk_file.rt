@@ -93,6 +93,7 @@ impl ChunkFile {
     /// Takes room for most chunks, if there is none yet. Then most files are read by one call. Nothing is read by it.
     pub fn make_room(&mut self) -> Result<(), Memory>
         ensures room { OnOk result (0 < length self.new.bytes) }
+        ensures err { OnErr result (self.new.outcome ≡ Err GetFault.Missing) }
         ensures kept { 0 < length self.old.bytes → self.new ≡ self.old }
     {
         if !self.buffer.is_empty() {

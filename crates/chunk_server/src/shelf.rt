@@ -3,7 +3,7 @@
 ghost use Rattle.std.specs.Prelude.{◌≡◌, ℕ, Bool, List, ◌≤◌, length, IfOk, IfSome, OnErr, false};
 ghost use Rattle.caibx_fields.specs.Limits.{size_limit};
 ghost use Rattle.chunk_server.specs.Answers.{Answer};
-ghost use Rattle.chunk_server.specs.Shelves.{IsAnswer, IsUnfailed, StepLacksMemory, ServedFolder, ServesOrFails};
+ghost use Rattle.chunk_server.specs.Shelves.{IsAnswer, StepLacksMemory, ServedFolder, ServesOrFails};
 ghost use Rattle.chunk_server.specs.Shelves.{answer_in};
 ghost use Rattle.chunk_store.specs.declared.id.DigestKind.{DigestKind};
 ghost use Rattle.http_wire.specs.Request.{is_refusal};
@@ -41,7 +41,7 @@ pub trait Shelf: Drop {
             ServesOrFails (digest self.old) (state self.old) act.now body.now (answer_in r) (state self.new))) }
         ensures err { OnErr result (IfSome (state self.old).files (λ _.
             StepLacksMemory (digest self.old) (state self.old) act.now body.now (state self.new))) }
-        ensures unfailed { OnErr result (IsUnfailed (state self.old) act.now (state self.new)) }
+        ensures unfailed { OnErr result ((state self.new).faults ≡ (state self.old).faults) }
         ensures kind { digest self.new ≡ digest self.old }
         ensures kept { takes self.new ≡ takes self.old }
         ensures place { place self.new ≡ place self.old }

@@ -4,7 +4,7 @@ ghost use Rattle.std.specs.Prelude.{◌≡◌, ℕ, ◌≤◌, List, length, fal
 ghost use Rattle.caibx_fields.specs.Limits.{size_limit};
 ghost use Rattle.chunk_server.specs.Reads.{ReadsFile};
 ghost use Rattle.chunk_server.specs.Shelves.{AreAlikeButTemporaries, IsAnswer, RefusesOtherDigest, ServesOrFails};
-ghost use Rattle.chunk_server.specs.Shelves.{IsUnfailed, answer_in, shelved};
+ghost use Rattle.chunk_server.specs.Shelves.{answer_in, shelved};
 ghost use Rattle.chunk_store.specs.Kinds.{kind_named};
 ghost use Rattle.chunk_store.specs.Digests.{digest_of};
 ghost use Rattle.chunk_store.specs.declared.id.DigestKind.TheVariants as kinds;
@@ -135,8 +135,7 @@ impl<F: Folder> ShelfState<F> {
             (answer_in r) (shelved F.files F.faults self.new.folder)) }
         ensures refused { IfOk result (λ r. RefusesOtherDigest self.old.kind act.now body.now (answer_in r)) }
         ensures err { OnErr result (AreAlikeButTemporaries (F.files self.old.folder) (F.files self.new.folder)) }
-        ensures unfailed { OnErr result (IsUnfailed (shelved F.files F.faults self.old.folder) act.now
-            (shelved F.files F.faults self.new.folder)) }
+        ensures unfailed { OnErr result (F.faults self.new.folder ≡ F.faults self.old.folder) }
         ensures place { F.place self.new.folder ≡ F.place self.old.folder }
         ensures faults { F.faults self.old.folder ≤ F.faults self.new.folder }
         ensures kind { self.new.kind ≡ self.old.kind }

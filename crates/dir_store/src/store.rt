@@ -1,6 +1,6 @@
 //! The chunk files of a folder as a store. Sizes are in bytes.
 
-ghost use Rattle.std.specs.Prelude.{◌≡◌, ◌<◌, ◌≤◌, Err, IfSome, IfOk, IsTrue, OnOk, OnErr, is_some, length};
+ghost use Rattle.std.specs.Prelude.{◌≡◌, ◌≢◌, ◌<◌, ◌≤◌, Err, IfSome, IfOk, IsTrue, OnOk, OnErr, is_some, length};
 ghost use Rattle.std.specs.Option.{option_map};
 ghost use Rattle.caibx_fields.specs.Limits.{size_limit};
 ghost use Rattle.chunk_store.specs.Causes.{CountsCause};
@@ -72,6 +72,25 @@ impl<F: Look> DirStore<F> {
         self.folder.names()
     }
 
+    // Reads the file of this id to the front of `out`.
+    fn read(&mut self, id: &ChunkId, out: &mut [u8]) -> Result<usize, GetFault>
+        ensures bytes { IfSome (option_map chunks (F.files self.old)) (λ m. GetGives (m id.now.0) result out.new) }
+        ensures size { IfOk result (λ n. n ≤ length out.new) }
+        ensures kept { F.files self.new ≡ F.files self.old }
+        ensures place { F.place self.new ≡ F.place self.old }
+        ensures unfailed { result ≢ Err GetFault.Failed → F.faults self.new ≡ F.faults self.old }
+        ensures faults { CountsCause GetFault.Failed (F.faults self.old) (F.faults self.new) result }
+    {
+        let path = id.path();
+        match self.folder.read(path.as_str(), out) {
+            Ok(n) => Ok(n),
+            Err(FileFault::Absent) => Err(GetFault::Missing),
+            Err(FileFault::Longer) => Err(GetFault::Longer),
+            Err(FileFault::Failed) => Err(GetFault::Failed),
+            Err(FileFault::Memory) => Err(GetFault::Memory),
+        }
+    }
+
     /// Reads the file of this id to the front of the buffer, which becomes as long as is needed. `Longer`: the file has
     /// more than 64 MiB.
     pub fn read_whole(&mut self, id: &ChunkId, buffer: &mut Vec<u8>) -> Result<usize, GetFault>
@@ -83,10 +102,11 @@ impl<F: Look> DirStore<F> {
         ensures longer { result ≡ Err GetFault.Longer → length buffer.new.items ≡ size_limit }
         ensures kept { F.files self.new ≡ F.files self.old }
         ensures place { F.place self.new ≡ F.place self.old }
+        ensures unfailed { result ≢ Err GetFault.Failed → F.faults self.new ≡ F.faults self.old }
         ensures faults { CountsCause GetFault.Failed (F.faults self.old) (F.faults self.new) result }
     {
         while buffer.len() < SIZE_LIMIT as usize {
-            match self.get(id, buffer.as_mut_slice()) {
+            match self.read(id, buffer.as_mut_slice()) {
                 Err(GetFault::Longer) => {}
                 answer => return answer,
             }
@@ -95,7 +115,7 @@ impl<F: Look> DirStore<F> {
                 Err(_) => return Err(GetFault::Memory),
             }
         }
-        self.get(id, buffer.as_mut_slice())
+        self.read(id, buffer.as_mut_slice())
     }
 }
 
@@ -170,14 +190,7 @@ impl<F: Look> Store for DirStore<F> {
     ghost may_lack_memory = { true };
 
     fn get(&mut self, id: &ChunkId, out: &mut [u8]) -> Result<usize, GetFault> {
-        let path = id.path();
-        match self.folder.read(path.as_str(), out) {
-            Ok(n) => Ok(n),
-            Err(FileFault::Absent) => Err(GetFault::Missing),
-            Err(FileFault::Longer) => Err(GetFault::Longer),
-            Err(FileFault::Failed) => Err(GetFault::Failed),
-            Err(FileFault::Memory) => Err(GetFault::Memory),
-        }
+        self.read(id, out)
     }
 
     fn has(&mut self, id: &ChunkId) -> Result<bool, IoFault> {

@@ -10,7 +10,7 @@ use Rattle.http_serve.specs.Protocols.{Asked, Protocol}
 use Rattle.http_serve.specs.Requests.{HasNone, IsNextRequest, IsOver, behind}
 use Rattle.http_serve.specs.Steps.{AreBothAlike, ServedState, StepLacks, Steps}
 use Rattle.http_serve.specs.Streams.{Stream, sent_in, skips, stream_in}
-use Rattle.http_serve.specs.Turns.{BreaksOff, ConnectionFails, IsNear, Lingers, RequestsStop, Stays, TurnsGo, reply_bytes, turn_of}
+use Rattle.http_serve.specs.Turns.{BreaksOff, ConnectionFails, IsAlikeOrNext, IsNear, Lingers, RequestsStop, Stays, TurnsGo, reply_bytes, turn_of}
 use Rattle.http_serve.proofs.Talking.{always_told, if_told, talks_none, talks_one}
 
 weaker : {X : Type 0} {P Q : X → Type 0} (o : Option X) → ((x : X) → P x → Q x) → IfSome o P → IfSome o Q
@@ -35,9 +35,12 @@ module _ {R M : Type 0} (p : Protocol R M) (same_alike : (m : M) → p.answering
   alike_same None = tt
   alike_same (Some m) = same_alike m
 
+  same_or_next : (left : Option (List ℕ)) (s : ServedState M) → IsAlikeOrNext p left s s
+  same_or_next None s = alike_same s.files
+  same_or_next (Some b) s = inl (alike_same s.files)
+
   pub near_same : (left : Option (List ℕ)) (s : ServedState M) → IsNear p left s s
-  near_same None s = always_told s.files (alike_same s.files)
-  near_same (Some b) s = always_told s.files (inl (alike_same s.files))
+  near_same left s = record { files = always_told s.files (same_or_next left s); unfailed = refl }
 
   nothing : (s u : Stream) (shelf : ServedState M) → u.sent ≡ s.sent → BreaksOff p s.left s.sent shelf (Some s.left) u.sent shelf
   nothing s u shelf is = record {
@@ -67,10 +70,10 @@ module _ {R M : Type 0} (p : Protocol R M) (same_alike : (m : M) → p.answering
     none,
   )
 
-  pub turn_unanswered : (q : Asked R) (a b : Option Stream) (shelf shelf' : ServedState M) → ComesFirst p.reading q a b → IfSome shelf.files (λ _. StepLacks p.answering shelf q.request q.body shelf') → Lingers p a shelf b shelf'
-  turn_unanswered q a b shelf shelf' comes lacks =
+  pub turn_unanswered : (q : Asked R) (a b : Option Stream) (shelf shelf' : ServedState M) → ComesFirst p.reading q a b → IfSome shelf.files (λ _. StepLacks p.answering shelf q.request q.body shelf') → shelf'.faults ≡ shelf.faults → Lingers p a shelf b shelf'
+  turn_unanswered q a b shelf shelf' comes lacks unfailed =
       weaker a (λ s n. subst (λ (o : Option Stream). IfSome o (λ u. (left : Option (List ℕ)) × (mid : ServedState M) × BreaksOff p s.left s.sent shelf left u.sent mid × IsNear p left mid shelf')) (sym n.2)
-      (Some s.left, shelf, nothing s (skips n.0 s) shelf refl, if_told shelf.files (λ l. inr (n.0, q, n.1, l)) lacks)) comes
+      (Some s.left, shelf, nothing s (skips n.0 s) shelf refl, record { files = if_told shelf.files (λ l. inr (n.0, q, n.1, l)) lacks; unfailed = unfailed })) comes
 
   module _ (q : Asked R) (r : Answer) (a b c : Option Stream) (shelf shelf' : ServedState M) (x : List ℕ) (comes : ComesFirst p.reading q a b)
       (fair : p.fair (turn_of q r)) (step : IfSome shelf.files (λ _. Steps p.answering shelf q.request q.body r shelf')) where

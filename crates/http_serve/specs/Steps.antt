@@ -37,10 +37,10 @@ abbrev pub AnswersOrFails : {M : Type 0} → (M → Answer) → (M → M) → (M
     → ServedState M → Type 0
 AnswersOrFails says leaves alike old r new = IsAnsweredStep says leaves old r new ⊎ IsFailedStep alike old r new
 
--- there was no memory: all is as before the step, or as after it
+-- there was no memory: all is as before the step, or as after it, and no call has failed
 pub record RunsShort {M : Type 0} (leaves : M → M) (alike : M → M → Type 0) (old new : ServedState M) : Type 0 where
   pub files : AreBothAlike alike old.files new.files ⊎ AreBothAlike alike (option_map leaves old.files) new.files
-  pub faults : old.faults ≤ new.faults
+  pub unfailed : new.faults ≡ old.faults
 
 -- the same of a request with its body
 abbrev pub Steps : {R M : Type 0} → Answering R M → ServedState M → R → List ℕ → Answer → ServedState M → Type 0

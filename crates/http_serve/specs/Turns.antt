@@ -81,11 +81,16 @@ pub record BreaksOff {R M : Type 0}
   pub sent : told ≡ before ++ part
 
 -- all is alike; or there was no memory in the step of the request that comes next
-abbrev pub IsNear : {R M : Type 0} → Protocol R M → Option (List ℕ) → ServedState M → ServedState M → Type 0
-IsNear p None old new = IfSome old.files (λ _. AreBothAlike p.answering.alike old.files new.files)
-IsNear {R} p (Some b) old new =
-    IfSome old.files (λ _. AreBothAlike p.answering.alike old.files new.files
-    ⊎ ((n : ℕ) × (a : Asked R) × IsNextRequest p.reading b n a × StepLacks p.answering old a.request a.body new))
+abbrev pub IsAlikeOrNext : {R M : Type 0} → Protocol R M → Option (List ℕ) → ServedState M → ServedState M → Type 0
+IsAlikeOrNext p None old new = AreBothAlike p.answering.alike old.files new.files
+IsAlikeOrNext {R} p (Some b) old new =
+    AreBothAlike p.answering.alike old.files new.files
+    ⊎ ((n : ℕ) × (a : Asked R) × IsNextRequest p.reading b n a × StepLacks p.answering old a.request a.body new)
+
+-- so it is, and no call has failed
+pub record IsNear {R M : Type 0} (p : Protocol R M) (left : Option (List ℕ)) (old new : ServedState M) : Type 0 where
+  pub files : IfSome old.files (λ _. IsAlikeOrNext p left old new)
+  pub unfailed : new.faults ≡ old.faults
 
 -- ---- what is left of a connection and what was sent on it, where they are told, and what is served from
 

@@ -43,6 +43,7 @@ fn answer<S: Service>(
     ensures err { OnErr result (IfSome (S.state desk.old).files
         (λ _. StepLacks (S.protocol (S.setting desk.old)).answering (S.state desk.old)
         received.now.request received.now.body.items (S.state desk.new))) }
+    ensures unfailed { OnErr result ((S.state desk.new).faults ≡ (S.state desk.old).faults) }
     ensures kept { S.setting desk.new ≡ S.setting desk.old }
     ensures changed { S.leaves desk.old desk.new }
     ensures faults { (S.state desk.old).faults ≤ (S.state desk.new).faults }

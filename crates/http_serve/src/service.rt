@@ -93,6 +93,7 @@ pub trait Service {
             (state desk.old) request.now body.now (answer_in r) (state desk.new))) }
         ensures err { OnErr result (IfSome (state desk.old).files (λ _.
             StepLacks (protocol (setting desk.old)).answering (state desk.old) request.now body.now (state desk.new))) }
+        ensures unfailed { OnErr result ((state desk.new).faults ≡ (state desk.old).faults) }
         ensures kept { setting desk.new ≡ setting desk.old }
         ensures changed { leaves desk.old desk.new }
         ensures faults { (state desk.old).faults ≤ (state desk.new).faults };

@@ -1,7 +1,7 @@
 -- How a request is answered against the files of a folder of indexes, and which files it leaves. Statuses are those of
 -- RFC 9110, section 15; when each comes is this project's own.
-use Rattle.std.specs.Prelude.{◌≡◌, ℕ, ◌<◌, ◌⊎◌, List, [], length, nat_le, if◌then◌else◌, ◌&&◌, Bool, true, false, is_ok}
-use Rattle.std.specs.Prelude.{Option, Some, None, IfSome}
+use Rattle.std.specs.Prelude.{◌≡◌, ℕ, ◌⊎◌, List, [], length, nat_le, if◌then◌else◌, ◌&&◌, Bool, true, false, is_ok}
+use Rattle.std.specs.Prelude.{Option, Some, None}
 use Rattle.caibx_codec.specs.Listing.{Listing}
 use Rattle.caibx_codec.specs.Reading.{index_in}
 use Rattle.caibx_codec.specs.Spelling.{IsIndexFile}
@@ -76,27 +76,6 @@ KeepsButTemporaries old new = AreBothAlike SameButTemporaries old new
 abbrev pub AnswersIndexOrFails : IndexFolder → IndexAct → List ℕ → Answer → IndexFolder → Type 0
 AnswersIndexOrFails old a body r new =
     AnswersOrFails (λ m. index_answer_to m a body) (λ m. index_files_after m a body) SameButTemporaries old r new
-
--- a file is read by one call where it has no more bytes than this
-abbrev pub first_read : ℕ
-first_read = 262144
-
--- a file is held under the name that isn't read by one call
-abbrev pub HoldsLong : List ℕ → Map (List ℕ) → Type 0
-HoldsLong name files = (b : List ℕ) × (files name ≡ Some b) × (first_read < length b)
-
--- no call on the folder has failed, or a file of this name isn't read by one call: a folder that answers that a file is
--- longer may have counted anything
-abbrev pub IsUnfailedRead : List ℕ → IndexFolder → IndexFolder → Type 0
-IsUnfailedRead name old new = (new.faults ≡ old.faults) ⊎ IfSome old.files (HoldsLong name)
-
--- the same where a request was to be answered. A put is one call
-abbrev pub IsUnfailed : IndexFolder → IndexAct → IndexFolder → Type 0
-IsUnfailed old (act.Get name) new = IsUnfailedRead name old new
-IsUnfailed old (act.Head name) new = IsUnfailedRead name old new
-IsUnfailed old (act.Put name) new = new.faults ≡ old.faults
-IsUnfailed old act.Lost new = new.faults ≡ old.faults
-IsUnfailed old (act.Refuse status) new = new.faults ≡ old.faults
 
 -- the file of a valid index
 pub record RepliesIndex (r : Answer) : Type 0 where

@@ -1,5 +1,5 @@
 -- How the file of an index is read and found, and how a request is answered by it.
-use Rattle.std.specs.Prelude.{◌≡◌, ℕ, List, Option, IfOk, IfSome, Result, Ok, Err}
+use Rattle.std.specs.Prelude.{◌≡◌, ◌≢◌, ℕ, List, Option, IfOk, IfSome, Result, Ok, Err}
 use Rattle.caibx_codec.specs.Listing.{Listing}
 use Rattle.caibx_codec.specs.Reading.{index_in}
 use Rattle.caibx_codec.specs.declared.reading.ReadFault.{ReadFault}
@@ -26,6 +26,7 @@ pub record FindsFile (name : List ℕ) (old : IndexFolder) (found : Result (Opti
     (new : IndexFolder) : Type 0 where
   pub held : IfOk found (λ o. IfSome old.files (λ m. o ≡ index_held (m name)))
   pub kept : new.files ≡ old.files
+  pub unfailed : found ≢ Err io.Failed → new.faults ≡ old.faults
   pub faults : CountsCause io.Failed old.faults new.faults found
 
 -- what is asked for by this method

@@ -1,11 +1,11 @@
 //! The files of indexes. Sizes are in bytes.
 
-ghost use Rattle.std.specs.Prelude.{◌≡◌, ◌<◌, ◌≤◌, length, true, Err, IfOk, IfSome, OnOk, Some};
+ghost use Rattle.std.specs.Prelude.{◌≡◌, ◌≢◌, ◌<◌, ◌≤◌, length, true, Err, IfOk, IfSome, OnOk, Some};
 ghost use Rattle.caibx_codec.specs.Answers.{FindsIndex};
 ghost use Rattle.caibx_fields.specs.Limits.{file_limit};
 ghost use Rattle.chunk_store.specs.Causes.{CountsCause};
 ghost use Rattle.dsy_base.specs.Maps.{ReadGives};
-ghost use Rattle.index_server.specs.Answers.{IsSpelled, IsUnfailedRead, first_read, index_held, is_index, index_folder};
+ghost use Rattle.index_server.specs.Answers.{IsSpelled, index_held, is_index, index_folder};
 ghost use Rattle.index_server.specs.Finding.{FindsFile, ReadsAsIndex};
 
 use caibx_codec::check::check_index;
@@ -48,16 +48,12 @@ fn read_whole<F: Look>(
     name: &str,
     buffer: &mut Vec<u8>,
 ) -> Result<usize, FileFault>
-    requires first { first_read ≤ length buffer.old.items }
     requires room { length buffer.old.items ≤ file_limit }
     ensures room { length buffer.new.items ≤ file_limit }
     ensures bytes { IfSome (F.files folder.old) (λ m. ReadGives (m name.now) result buffer.new.items) }
     ensures ok { IfOk result (λ n. n ≤ length buffer.new.items) }
     ensures longer { result ≡ Err FileFault.Longer → length buffer.new.items ≡ file_limit }
-    ensures unfailed { result ≡ Err FileFault.Memory → IsUnfailedRead name.now
-        (index_folder F.files F.faults folder.old) (index_folder F.files F.faults folder.new) }
-    ensures done { OnOk result (IsUnfailedRead name.now
-        (index_folder F.files F.faults folder.old) (index_folder F.files F.faults folder.new)) }
+    ensures unfailed { result ≢ Err FileFault.Failed → F.faults folder.new ≡ F.faults folder.old }
     ensures kept { F.files folder.new ≡ F.files folder.old }
     ensures place { F.place folder.new ≡ F.place folder.old }
     ensures faults { CountsCause FileFault.Failed (F.faults folder.old) (F.faults folder.new) result }
@@ -134,8 +130,6 @@ impl IndexFile {
     ) -> Result<Option<IndexFile>, IoFault>
         ensures found { FindsFile name.now (index_folder F.files F.faults folder.old) result
             (index_folder F.files F.faults folder.new) }
-        ensures unfailed { result ≡ Err IoFault.Memory → IsUnfailedRead name.now
-            (index_folder F.files F.faults folder.old) (index_folder F.files F.faults folder.new) }
         ensures place { F.place folder.new ≡ F.place folder.old }
     {
         let Ok(mut bytes) = buffer_of(alloc, FIRST_READ) else {

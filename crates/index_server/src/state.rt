@@ -5,7 +5,7 @@ ghost use Rattle.caibx_fields.specs.Limits.{file_limit};
 ghost use Rattle.http_serve.specs.Answers.{answer_in};
 ghost use Rattle.http_wire.specs.IndexRequest.{is_refused};
 ghost use Rattle.index_server.specs.Answers.{KeepsButTemporaries, IsIndexAnswer, IsSpelled, IndexFolder};
-ghost use Rattle.index_server.specs.Answers.{AnswersIndexOrFails, IsUnfailed, IsUnfailedRead, is_index, index_folder};
+ghost use Rattle.index_server.specs.Answers.{AnswersIndexOrFails, is_index, index_folder};
 ghost use Rattle.index_server.specs.Finding.{FindsFile, index_answer_by, index_asked_by};
 
 use crate::index_file::{IndexFile, is_index};
@@ -113,8 +113,7 @@ impl<F: Folder> IndexState<F> {
         ensures ok { IfOk result (λ r. (body : List ℕ)
             → AnswersIndexOrFails (index_folder F.files F.faults self.old.folder) (index_asked_by method name.now) body
             (answer_in r) (index_folder F.files F.faults self.new.folder)) }
-        ensures unfailed { OnErr result (IsUnfailedRead name.now (index_folder F.files F.faults self.old.folder)
-            (index_folder F.files F.faults self.new.folder)) }
+        ensures unfailed { OnErr result (F.faults self.new.folder ≡ F.faults self.old.folder) }
         ensures files { F.files self.new.folder ≡ F.files self.old.folder }
         ensures place { F.place self.new.folder ≡ F.place self.old.folder }
         ensures faults { F.faults self.old.folder ≤ F.faults self.new.folder }
@@ -173,8 +172,7 @@ impl<F: Folder> IndexState<F> {
         ensures ok { IfOk result (λ r. AnswersIndexOrFails (index_folder F.files F.faults self.old.folder)
             act.now body.now (answer_in r) (index_folder F.files F.faults self.new.folder)) }
         ensures err { OnErr result (KeepsButTemporaries (F.files self.old.folder) (F.files self.new.folder)) }
-        ensures unfailed { OnErr result (IsUnfailed (index_folder F.files F.faults self.old.folder) act.now
-            (index_folder F.files F.faults self.new.folder)) }
+        ensures unfailed { OnErr result (F.faults self.new.folder ≡ F.faults self.old.folder) }
         ensures place { F.place self.new.folder ≡ F.place self.old.folder }
         ensures faults { F.faults self.old.folder ≤ F.faults self.new.folder }
         ensures kept { self.new.writable ≡ self.old.writable }

@@ -1,6 +1,6 @@
 //! A shelf behind a lock, and the door by which a connection reaches it.
 
-ghost use Rattle.std.specs.Prelude.{◌≡◌, ℕ, ◌≤◌, List, length, true, IfOk, IfSome, Some};
+ghost use Rattle.std.specs.Prelude.{◌≡◌, ◌≢◌, ℕ, ◌≤◌, List, length, true, Err, IfOk, IfSome, OnErr, Some};
 ghost use Rattle.caibx_fields.specs.Limits.{size_limit};
 ghost use Rattle.chunk_server.specs.Reads.{asked_by};
 ghost use Rattle.chunk_server.specs.Shelves.{IsAnswer, answer_in};
@@ -16,6 +16,7 @@ use chunk_server::chunk_file::{ChunkFile, ReadMethod};
 use chunk_server::shelf::{Reply, Shelf};
 use chunk_server::state::ShelfState;
 use chunk_store::id::{ChunkId, DigestKind};
+use chunk_store::store::GetFault;
 use dsy_base::fault::Memory;
 use dsy_base::folder::Folder;
 use dsy_base::link::Link;
@@ -125,6 +126,8 @@ impl<F: Folder> LockedShelf<F> {
         ensures only { IfOk result (λ r. IsAnswer (kind_named F.kind) (asked_by method id.now) (answer_in r)) }
         ensures may { IfOk result (λ r. (body : List ℕ) →
             MayReply (kind_named F.kind) F.opening F.never_fails (asked_by method id.now) body (answer_in r)) }
+        // So where there was no memory, no call on the folder has failed.
+        ensures unfailed { OnErr result (file.new.outcome ≢ Err GetFault.Failed) }
         ensures free { hand.new.is_free ≡ true }
     {
         file.make_room()?;

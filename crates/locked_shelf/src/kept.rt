@@ -1,6 +1,6 @@
 //! What stands behind a shelf's lock: a folder of chunks that has kept what its type names.
 
-ghost use Rattle.std.specs.Prelude.{◌≡◌, ◌≤◌, length, IfOk, IfSome, OnErr, Some};
+ghost use Rattle.std.specs.Prelude.{◌≡◌, ◌≢◌, ◌≤◌, length, Err, IfOk, IfSome, OnErr, Some};
 ghost use Rattle.chunk_server.specs.Shelves.{IsAnswer, answer_in};
 ghost use Rattle.chunk_store.specs.Kinds.{kind_named};
 ghost use Rattle.chunk_store.specs.Digests.{digest_of};
@@ -14,6 +14,7 @@ use chunk_server::shelf::Reply;
 use chunk_server::state::ShelfState;
 use chunk_store::id::ChunkId;
 use chunk_store::laws::id_has_32_bytes;
+use chunk_store::store::GetFault;
 use dir_store::laws::{
     chunk_is_no_temporary, chunk_names, put_changes_one_chunk, put_leaves_a_temporary,
 };
@@ -63,6 +64,8 @@ impl<F: Folder> Kept<F> {
     pub fn read(&mut self, id: &ChunkId, file: &mut ChunkFile)
         ensures bytes { IfSome F.opening (λ first.
             ReadsKept (kind_named F.kind) first F.never_fails id.now.0 file.new) }
+        ensures unfailed { file.new.outcome ≢ Err GetFault.Failed
+            → F.faults self.new.folder ≡ F.faults self.old.folder }
     {
         self.state.read(id, file);
     }

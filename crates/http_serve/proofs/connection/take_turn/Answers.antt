@@ -45,7 +45,7 @@ returns-in-Err-answer-clause-lacking g c = λ h.
     let q = asked_of c.in-Ok-Some.received in
     let found = rw c.in-Ok-Some.field-0-is at c.in-Ok-Some.ensures.found in
     turn_unanswered p same q a b (g.S.Service.state c.args.desk.now) (g.S.Service.state c.answer.new.desk)
-    found c.in-Err-answer.ensures.err
+    found c.in-Err-answer.ensures.err c.in-Err-answer.ensures.unfailed
 
 pub returns-in-Ok-send_reply-clause-open : goal.returns-in-Ok-send_reply-clause-open
 returns-in-Ok-send_reply-clause-open g c = λ h.

@@ -9,7 +9,5 @@ invariant_of-self g c = (
   kept_read (kind_named g.F.Folder.kind) g.F.Folder.opening c.args.id.now.0 _ _ _ c.read.ensures.bytes c.self.invariant.1,
 )
 
-pub returns : goal.returns
-returns g c = record {
-  bytes = reads_kept (kind_named g.F.Folder.kind) g.F.Folder.opening g.F.Look.never_fails c.args.id.now.0 _ _ _ (g.met.F.Look.sure _) (g.met.F.Look.sure _) c.read.ensures.bytes c.self.invariant.1;
-}
+pub returns-clause-bytes : goal.returns-clause-bytes
+returns-clause-bytes g c = reads_kept (kind_named g.F.Folder.kind) g.F.Folder.opening g.F.Look.never_fails c.args.id.now.0 _ _ _ (g.met.F.Look.sure _) (g.met.F.Look.sure _) c.read.ensures.bytes c.self.invariant.1
