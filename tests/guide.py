@@ -26,7 +26,7 @@ from checks import Cases, expect, expect_equal, needs_program
 GUIDE = os.path.join(program.TOP, 'docs', 'GUIDE.md')
 IMAGES = {'v1.img': 'seq 60000', 'v2.img': "seq 60000 | sed 's/^30000$/thirty thousand/'"}
 OURS, STATIC, NGINX, SERVED = 'localhost:8080', 'localhost:8000', 'images.example.com', '/srv/images'
-INDEXES = 'localhost:8081'
+INDEXES, SITE = 'localhost:8081', 'localhost:8082'
 BEHIND, NETWORK = '127.0.0.1:8080', '192.0.2.0/24'
 LOCATION = re.compile(r'^    location .*?^    }\n', re.DOTALL | re.MULTILINE)
 
@@ -57,7 +57,9 @@ class Reader:
         self.nginx = held.enter_context(contextlib.ExitStack())
 
     def do(self, kind, block):
-        if kind == 'sh' and block.startswith('desync chunk-server'):
+        if kind == 'sh' and block.startswith('desync chunk-server') and ' -c ' in block:
+            self.serve_site(block)
+        elif kind == 'sh' and block.startswith('desync chunk-server'):
             self.serve_chunks(block)
         elif kind == 'sh' and block.startswith('desync index-server'):
             self.serve_indexes(block)
@@ -75,6 +77,15 @@ class Reader:
         server = servers.ChunkServer(self.folder, *more.split(), store=store, host='localhost', address='localhost')
         self.ours.enter_context(server)
         self.hosts[OURS] = self.hosts[BEHIND] = f'localhost:{server.port}'
+
+    def serve_site(self, block):
+        """Runs `chunk-server -c` before the server of the guide."""
+        words = r'desync chunk-server -s http://localhost:8080/ -c (\S+) -l localhost:8082\n'
+        cache = re.fullmatch(words, block)[1]
+        server = servers.ChunkServer(self.folder, '-c', cache, store=f'http://{self.hosts[OURS]}/', host='localhost',
+                                     address='localhost')
+        self.held.enter_context(server)
+        self.hosts[SITE] = f'localhost:{server.port}'
 
     def serve_indexes(self, block):
         folder, more = re.fullmatch(r'desync index-server -s (\S+) -l localhost:8081(.*)\n', block).groups()

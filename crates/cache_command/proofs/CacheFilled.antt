@@ -11,6 +11,7 @@ use Rattle.caibx_codec.specs.Listing.{Listing}
 use Rattle.chunk_store.specs.Folders.{chunks}
 use Rattle.chunk_store.specs.declared.id.ChunkId.{ChunkId}
 use Rattle.chunk_store.specs.declared.store.Store.{Ghosts as StoreWords}
+use Rattle.command_groups.proofs.Folders.{put_twice, was_put}
 use Rattle.command_groups.proofs.Given.{group_given_earlier}
 use Rattle.command_groups.proofs.Lacked.{groups_lack}
 use Rattle.command_groups.proofs.Quiet.{groups_quiet}
@@ -36,11 +37,9 @@ use Rattle.command_steps.specs.Sources.{ConsultsStores, Storage, SourcesOpened, 
 use Rattle.command_worlds.specs.Steps.{outcome_of}
 use Rattle.command_worlds.specs.Worlds.{Adds, DiskQuiet, FolderRose, Reads, world}
 use Rattle.command_steps.specs.declared.any_store.AnyStore.{AnyStore}
-use Rattle.command_steps.proofs.Taken.{at_name_twice}
 use Rattle.command_steps.proofs.Lacked.{same_length}
 use Rattle.cache_command.proofs.Renumbered.{IsAnswerAs, IsFaultAs, IsOutcomeAs, IsSame, IsTold, fault_as, filled_as, fills_as, memory_as, same_answer, spelled_as, told_answer, told_lack, told_maps}
 use Rattle.cache_command.specs.Caching.{HoldsFirst, AddsListed, AllFilled, CacheEnds, EndsFilling, Evidence, FillExactly, FillTells, FilledBetween, FillsEach, IndexFilled, IsHeldListed, IsNotHad, NotFilled, StopsFilling, answer_of_fill, of_calls, of_command, outcome_of_fill, GetsListed}
-use Rattle.dsy_base.proofs.Counts.{at_same}
 use Rattle.dsy_base.specs.Counts.{Quiet, Rose}
 use Rattle.dsy_base.specs.Disk.{Disk, Output}
 use Rattle.dsy_base.specs.Links.{DialState}
@@ -284,15 +283,6 @@ not_reached groups again cache most indexes k p b e o (inl none) = inl (none, re
 not_reached groups again cache most indexes k p b e o (inr (m, opened, none)) = inr (record { disk = m; dial = k; out = p; gave = tt; did = (opened, refl, refl); then = inl (none, refl, refl) })
 
 -- ---- when all is given back
-
--- a name that is put twice
-put_twice : (o : Option (Map (Map (List ℕ)))) (q : List ℕ) (x y : Option (Map (List ℕ))) → option_map (λ (m : Map (Map (List ℕ))). at_name m q y) o ≡ option_map (λ (m : Map (Map (List ℕ))). at_name m q y) (option_map (λ (m : Map (Map (List ℕ))). at_name m q x) o)
-put_twice None q x y = refl
-put_twice (Some m) q x y = ap Some (sym (at_name_twice m q x y))
-
-was_put : (o : Option (Map (Map (List ℕ)))) (q : List ℕ) (x : Option (Map (List ℕ))) → IfSome (option_map (λ (m : Map (Map (List ℕ))). at_name m q x) o) (λ m. m q ≡ x)
-was_put None q x = tt
-was_put (Some m) q x = at_same m q x
 
 held_so : (o : Option (Map (Map (List ℕ)))) (names : List (List Location)) (xs : List (Option (Map (List ℕ)))) (fs : List (Map (List ℕ))) → IfSome o (λ n. xs ≡ map (group_files n) names) → IsSomeAnd o (λ n. map (group_files n) names ≡ map Some fs) → xs ≡ map Some fs
 held_so None names xs fs found told = absurd told

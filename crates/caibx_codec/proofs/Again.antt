@@ -31,7 +31,7 @@ judge_part_at _ r p b = refl
 above : (n m : ℕ) → m ≤ n → nat_lt n m ≡ false
 above n m h = grind (arith, nat_tests)
 
-under : (n m : ℕ) → n < m → nat_lt n m ≡ true
+pub under : (n m : ℕ) → n < m → nat_lt n m ≡ true
 under n m h = grind (arith, nat_tests)
 
 -- all bytes that the next field still needs

@@ -40,11 +40,11 @@ stands_more r t xs (Err e) fits stands h = tt
 
 -- ---- the end of the file
 
-is_nothing : (f : Field) → f ≡ field.Nothing → is_read_whole f ≡ true
+pub is_nothing : (f : Field) → f ≡ field.Nothing → is_read_whole f ≡ true
 is_nothing field.Nothing h = refl
 is_nothing _ h = absurd (cc)
 
-not_nothing : (f : Field) → f ≢ field.Nothing → is_read_whole f ≡ false
+pub not_nothing : (f : Field) → f ≢ field.Nothing → is_read_whole f ≡ false
 not_nothing field.Nothing h = absurd (h refl)
 not_nothing _ h = refl
 
@@ -67,7 +67,7 @@ end_chosen : (b : Bool) (l i : Listing) (e : IndexFault) → cond b (Ok l) (Err 
 end_chosen true l i e h = (refl, ok_is l i h)
 end_chosen false l i e h = absurd (cc)
 
-found : (bytes : List ℕ) (i : Listing) (r : Read) → IsReachedBy r bytes → index_in bytes ≡ Ok i → IsIndexFile bytes i
+pub found : (bytes : List ℕ) (i : Listing) (r : Read) → IsReachedBy r bytes → index_in bytes ≡ Ok i → IsIndexFile bytes i
 unfolding index_in
 found bytes i r for h =
     let read : reads_index index_start bytes ≡ Ok r = subst (λ b. reads_index index_start b ≡ Ok r) for.is for.stands.reads in

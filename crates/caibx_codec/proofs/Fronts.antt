@@ -14,7 +14,7 @@ use Rattle.caibx_codec.proofs.Fields.{need_least, no_id, no_end, word_passes, wo
 use Rattle.caibx_codec.proofs.Pieces.{stops_on}
 
 -- the bytes of a field, where no part of it is kept
-field_read : (r : Read) (t rest : List ℕ) → r.part ≡ [] → length t ≡ need r.fields.next → reads_index r (t ++ rest) ≡ (judge r t >>= λ s. reads_index s rest)
+pub field_read : (r : Read) (t rest : List ℕ) → r.part ≡ [] → length t ≡ need r.fields.next → reads_index r (t ++ rest) ≡ (judge r t >>= λ s. reads_index s rest)
 field_read r [] rest none len = absurd (omega (arith, need_least r.fields.next))
 field_read r (x ∷ xs) rest none len =
     let whole : length r.part + length (x ∷ xs) ≡ need r.fields.next = omega (arith, ap length none) in

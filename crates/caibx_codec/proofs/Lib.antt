@@ -8,6 +8,7 @@ pub mod Again
 pub mod Fronts
 pub mod Answered
 pub mod Views
+pub mod Checked
 pub mod Written
 pub mod Valid
 pub mod Rules

@@ -27,7 +27,7 @@ pub shown : (x : Result Read IndexFault) (f : IndexFault) → fault_in_read x �
 shown (Ok r) f h = absurd (cc)
 shown (Err g) f h = cc
 
-at_end : {A B : Type 0} (r : Result A IndexFault) (f : A → Result B IndexFault) (e : IndexFault) → r ≡ Err e → (r >>= f) ≡ Err e
+pub at_end : {A B : Type 0} (r : Result A IndexFault) (f : A → Result B IndexFault) (e : IndexFault) → r ≡ Err e → (r >>= f) ≡ Err e
 at_end (Ok x) f e h = absurd (cc)
 at_end (Err g) f e h = let same : g ≡ e = cc in ap (λ x. Err x) same
 

@@ -5,5 +5,6 @@ pub mod Judge
 pub mod Reading
 pub mod Standing
 pub mod Answers
+pub mod Checking
 pub mod Seen
 pub mod Right

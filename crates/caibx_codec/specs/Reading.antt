@@ -8,7 +8,7 @@ use Rattle.caibx_fields.specs.declared.fault.IndexFault.TheVariants as faults
 use Rattle.caibx_fields.specs.declared.field.Field.{Field}
 use Rattle.caibx_fields.specs.declared.field.Field.TheVariants as field
 use Rattle.caibx_fields.specs.declared.field.Fields.{Fields}
-use Rattle.caibx_fields.specs.Fields.{need, to, word_at}
+use Rattle.caibx_fields.specs.Fields.{need, to, unread_fields, word_at}
 use Rattle.caibx_codec.specs.Listing.{Listing}
 
 infixl 10 ◌>>=◌
@@ -47,20 +47,7 @@ reads_index r (b ∷ bs) = push_to_index r b >>= λ s. reads_index s bs
 
 -- before the first byte
 unfoldable pub index_start : Read
-index_start = record {
-  fields = record {
-    next = field.HeadSize;
-    flags = 0;
-    min = 0;
-    avg = 0;
-    max = 0;
-    end = 0;
-    offset = 0;
-    size = 0;
-  };
-  entries = [];
-  part = [];
-}
+index_start = record { fields = unread_fields; entries = []; part = [] }
 
 -- what the fields and the items say
 abbrev pub listing : Fields → List (ℕ × List ℕ) → Listing

@@ -7,9 +7,11 @@ ghost use Rattle.chunk_store.specs.Digests.{IsId};
 ghost use Rattle.caibx_codec.specs.Judge.{entry_fault, Judged};
 ghost use Rattle.caibx_codec.specs.Listing.{IsValid, IsListedSize, Listing, Rules, count_of, start_of, end_of, size_of};
 ghost use Rattle.caibx_codec.specs.Listing.{id_of, kind_of, image_length};
+ghost use Rattle.caibx_codec.specs.Reading.{listing};
 ghost use Rattle.caibx_codec.specs.Seen.{pairs};
 
 use caibx_fields::fault::IndexFault;
+use caibx_fields::field::Fields;
 use caibx_fields::format::{DIGEST_FLAG, ITEM_LIMIT, SIZE_LIMIT};
 use chunk_store::id::{ChunkId, DigestKind};
 use chunk_store::laws::id_has_32_bytes;
@@ -112,30 +114,16 @@ impl Index {
         }
     }
 
-    // The index of these entries, which were judged one by one.
-    pub(crate) fn of_valid(flags: u64, min: u64, avg: u64, max: u64, entries: Vec<Entry>) -> Index
-        requires { IsValid (record {
-          flags = flags;
-          least = min;
-          average = avg;
-          greatest = max;
-          entries = pairs
-              entries.items;
-        }) }
-        ensures { result ≡ record {
-          flags = flags;
-          least = min;
-          average = avg;
-          greatest = max;
-          entries = pairs
-              entries.items;
-        } }
+    // The index of these words and entries, which were judged one by one.
+    pub(crate) fn of_fields(fields: Fields, entries: Vec<Entry>) -> Index
+        requires { IsValid (listing fields (pairs entries.items)) }
+        ensures { result ≡ listing fields (pairs entries.items) }
     {
         Index {
-            flags,
-            min,
-            avg,
-            max,
+            flags: fields.flags,
+            min: fields.min,
+            avg: fields.avg,
+            max: fields.max,
             entries,
         }
     }

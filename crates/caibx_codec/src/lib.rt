@@ -1,6 +1,7 @@
 //! Index files of casync (`caibx`): what they list, how they are read and how they are written.
 #![tactic(auto)]
 
+pub mod check;
 pub mod index;
 pub mod laws;
 mod partial;

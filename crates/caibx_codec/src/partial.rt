@@ -45,16 +45,7 @@ impl Partial {
         ensures ok { IsReachedBy result [] }
     {
         Partial {
-            fields: Fields {
-                next: Field::HeadSize,
-                flags: 0,
-                min: 0,
-                avg: 0,
-                max: 0,
-                end: 0,
-                offset: 0,
-                size: 0,
-            },
+            fields: Fields::new(),
             entries: Vec::new(alloc),
             part: [0; 32],
             filled: 0,
@@ -194,13 +185,6 @@ impl Partial {
         let Field::Nothing = self.fields.next else {
             return Err(ReadFault::Bad(IndexFault::Truncated { at }));
         };
-        let Fields {
-            flags,
-            min,
-            avg,
-            max,
-            ..
-        } = self.fields;
-        Ok(Index::of_valid(flags, min, avg, max, self.entries))
+        Ok(Index::of_fields(self.fields, self.entries))
     }
 }

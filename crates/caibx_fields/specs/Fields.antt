@@ -31,6 +31,11 @@ place_of field.Size n = 88 + 40 * n
 place_of field.Marker n = 96 + 40 * n
 place_of field.Nothing n = 104 + 40 * n
 
+-- before the first byte
+abbrev pub unread_fields : Fields
+unread_fields =
+    record { next = field.HeadSize; flags = 0; min = 0; avg = 0; max = 0; end = 0; offset = 0; size = 0 }
+
 -- another field comes next
 abbrev pub to : Fields → Field → Fields
 to s f = record s { next = f }

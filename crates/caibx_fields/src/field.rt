@@ -1,7 +1,7 @@
 //! The fields of an index file in their order, and how each of its words is judged.
 
 ghost use Rattle.std.specs.Prelude.{◌≡◌, ◌≤◌, ◌==◌, nat_le, nat_lt, if◌then◌else◌, Ok};
-ghost use Rattle.caibx_fields.specs.Fields.{need, place_of, word_at, end_judged};
+ghost use Rattle.caibx_fields.specs.Fields.{need, place_of, unread_fields, word_at, end_judged};
 ghost use Rattle.caibx_fields.specs.Limits.{size_limit, item_limit};
 
 use crate::fault::IndexFault;
@@ -42,6 +42,24 @@ pub struct Fields {
     pub end: u64,
     pub offset: u64,
     pub size: u64,
+}
+
+impl Fields {
+    /// Nothing was read yet.
+    pub fn new() -> Fields
+        ensures { result ≡ unread_fields }
+    {
+        Fields {
+            next: Field::HeadSize,
+            flags: 0,
+            min: 0,
+            avg: 0,
+            max: 0,
+            end: 0,
+            offset: 0,
+            size: 0,
+        }
+    }
 }
 
 /// The number of bytes of a field.

@@ -3,6 +3,7 @@ use Rattle.std.proofs.Common.{◌≡◌, ◌∙◌, Bool, false, List, [], ◌�
 use Rattle.std.specs.Option.{option_map}
 use Rattle.chunk_store.specs.Folders.{chunks}
 use Rattle.command_groups.proofs.Stand.{many_stores}
+use Rattle.command_groups.specs.Groups.{group_files}
 use Rattle.command_groups.specs.Opened.{files_in, locations_in}
 use Rattle.command_steps.specs.AnyStores.{chunks_in, source_files}
 use Rattle.command_steps.specs.Sources.{location_files}
@@ -27,6 +28,12 @@ map_twice g f (x ∷ xs) = ap (λ l. g (f x) ∷ l) (map_twice g f xs)
 -- what a group holds, by the files of its folders
 abbrev held_by : List (Option (Map (List ℕ))) → Option (Map (List ℕ))
 held_by folders = of_one (option_map chunks) folders
+
+known_each : (m : Map (Map (List ℕ))) (groups : List (List Location)) → map (λ g. held_by (map (location_files m) g)) groups ≡ map (λ g. option_map chunks (group_files m g)) groups
+known_each m [] = refl
+known_each m ([] ∷ groups) = ap (λ l. None ∷ l) (known_each m groups)
+known_each m ((q ∷ []) ∷ groups) = ap (λ l. option_map chunks (location_files m q) ∷ l) (known_each m groups)
+known_each m ((q ∷ r ∷ g) ∷ groups) = ap (λ l. None ∷ l) (known_each m groups)
 
 module _ {L D K : Type 0} (files : L → Option (Map (List ℕ))) (place : L → List ℕ) where
   none_seen : ((l : L) → files l ≡ None) → (x : AnyStore L D K) → source_files files x ≡ None
@@ -73,3 +80,10 @@ module _ {L D K : Type 0} (files : L → Option (Map (List ℕ))) (place : L →
       → map (λ g. of_one (chunks_in files) g.stores) xs ≡ map (λ g. of_one (chunks_in files) g.stores) ys
   hold_alike tells looks told seen folders tells_are names xs ys at there one two =
       all_hold xs ∙ map_twice held_by (files_in files) xs ∙ ap (map held_by) (files_alike tells looks told seen folders tells_are names xs ys (at ∙ sym there) one two) ∙ sym (map_twice held_by (files_in files) ys) ∙ sym (all_hold ys)
+
+  -- what groups hold that were opened from these folders
+  pub groups_known : (folders : Option (Map (Map (List ℕ)))) (xs : List (Grouped (AnyStore L D K))) (groups : List (List Location)) → IfSome folders (λ m. map (files_in files) xs ≡ map (map (location_files m)) groups)
+      → IfSome folders (λ m. map (λ g. of_one (chunks_in files) g.stores) xs ≡ map (λ g. option_map chunks (group_files m g)) groups)
+  groups_known None xs groups found = tt
+  groups_known (Some m) xs groups found =
+      all_hold xs ∙ map_twice held_by (files_in files) xs ∙ ap (map held_by) found ∙ sym (map_twice held_by (map (location_files m)) groups) ∙ known_each m groups

@@ -10,3 +10,4 @@ pub mod Opening
 pub mod Given
 pub mod LentChains
 pub mod Alike
+pub mod Folders

@@ -1,9 +1,9 @@
 -- What `cache` has achieved where it is done.
-use Rattle.std.proofs.Common.{◌≡◌, ◌⊎◌, ℕ, arith, suc, ◌<◌, List, [], ◌∷◌, true, false, Option, Some, None, IfSome, IsSome, is_some, Ok, refl, sym, subst, ap, ◌∙◌, inl, inr, unwrap_or}
+use Rattle.std.proofs.Common.{◌≡◌, ◌⊎◌, ℕ, arith, suc, List, [], ◌∷◌, true, false, Option, Some, None, IfSome, IsSome, is_some, Ok, refl, sym, subst, ap, ◌∙◌, inl, inr, unwrap_or}
 use Rattle.std.proofs.lemmas.Option.{same_Some}
 use Rattle.std.specs.List.{AllZip, Any, Contains}
 use Rattle.std.specs.Option.{option_map}
-use Rattle.caibx_codec.specs.Listing.{Listing, count_of, id_of}
+use Rattle.caibx_codec.specs.Listing.{Listing, id_of}
 use Rattle.chunk_store.specs.Folders.{chunks}
 use Rattle.command_indexes.proofs.Spelled.{IsPart, spells_wider}
 use Rattle.command_indexes.specs.Spelled.{IndexSpells}

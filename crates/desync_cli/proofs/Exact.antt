@@ -17,7 +17,7 @@ use Rattle.desync_cli.proofs.ExactExtract.{extracts_so}
 use Rattle.desync_cli.proofs.ExactFolders.{prunes_so, verifies_so}
 use Rattle.desync_cli.proofs.ExactImages.{chops_so, makes_so}
 use Rattle.desync_cli.proofs.ExactRanges.{puts_so}
-use Rattle.desync_cli.proofs.ExactServing.{chunk_server_so, index_server_so}
+use Rattle.desync_cli.proofs.ExactServing.{chunk_server_so, index_server_so, proxy_server_so}
 use Rattle.desync_cli.proofs.ExactTexts.{demonstrates_so, lists_so, prints_so, tells_so, verifies_index_so}
 use Rattle.desync_cli.proofs.Fair.{begun, if_any, if_some}
 use Rattle.desync_cli.proofs.Readings.{EndsSo, IsQuiet, at_first}
@@ -55,6 +55,7 @@ module _ (sure : Bool) (k : Heard) (x : Contents) (w v : World) where
   command_exact commands.Version alone f = prints_so x w v (quiet f) (help_text topics.Version) w (at_first x w f.tells)
   command_exact (commands.HelpOn kind) alone f = prints_so x w v (quiet f) (help_text (topics.Command kind)) w (at_first x w f.tells)
   command_exact (commands.ChunkServer store host port writable workers digest) alone f = chunk_server_so x w v (quiet f) k f.listener digest store writable workers f.tells
+  command_exact (commands.Proxy stores retries cache host port workers digest) alone f = proxy_server_so x w v (quiet f) k f.listener stores retries cache digest workers f.folders f.tells
   command_exact (commands.IndexServer store host port writable) alone f = index_server_so x w v (quiet f) k f.listener store writable f.tells
 
 -- words that are no command, or for which there was no memory

@@ -17,7 +17,7 @@ use Rattle.command_indexes.proofs.Spelled.{not_spelled_done, not_spelled_file, s
 use Rattle.command_indexes.specs.Places.{are_files, is_file}
 use Rattle.command_indexes.specs.Spelled.{NotSpelled, IndexSpells}
 use Rattle.command_steps.specs.InputFiles.{IsListed}
-use Rattle.command_steps.specs.Sources.{OnStorage, location_files, storage_of}
+use Rattle.command_steps.specs.Sources.{OnStorage, storage_of}
 use Rattle.command_steps.specs.Stores.{are_folders}
 use Rattle.command_words.specs.declared.command.Location.{Location}
 use Rattle.command_worlds.specs.Steps.{◌>>=◌, outcome_of}

@@ -18,9 +18,8 @@ use Rattle.command_indexes.specs.Places.{is_file}
 use Rattle.command_steps.proofs.Taken.{at_name_twice}
 use Rattle.command_steps.specs.Cache.{CacheOpened}
 use Rattle.command_steps.specs.Seeds.{IndexesRead, image_name}
-use Rattle.command_steps.specs.Sources.{NotAsking, OnStorage, SourcesOpened, StoreRose, location_files, said_at, storage, storage_of}
+use Rattle.command_steps.specs.Sources.{NotAsking, OnStorage, SourcesOpened, storage, storage_of}
 use Rattle.command_steps.specs.Stores.{are_folders}
-use Rattle.command_words.specs.declared.command.Location.{Location}
 use Rattle.command_words.specs.declared.command.Location.TheVariants as locations
 use Rattle.command_worlds.specs.Steps.{◌>>=◌, outcome_of}
 use Rattle.command_worlds.specs.Worlds.{DiskQuiet, FileRose, OnDisk, World, world}
@@ -29,7 +28,7 @@ use Rattle.desync_cli.proofs.ExactCache.{is_memory}
 use Rattle.command_groups.specs.Groups.{group_files, stores_of}
 use Rattle.desync_cli.proofs.Grouped.{AreAlone, alone_files, none_lacking}
 use Rattle.extract_command.specs.declared.stores.Stores.{Stores}
-use Rattle.desync_cli.proofs.Readings.{EndsSo, IsAt, IsQuiet, any_cache_so, at_first, index_so, indexes_so, none_failed, some_not, stores_so}
+use Rattle.desync_cli.proofs.Readings.{EndsSo, IsAt, IsQuiet, any_cache_so, at_first, index_so, indexes_so, some_not, stores_so}
 use Rattle.desync_cli.specs.AtHand.{into}
 use Rattle.desync_cli.specs.Contents.{Contents, HasContents, folders_at, index_at, indexes_at}
 use Rattle.desync_cli.specs.Exact.{CacheGains, Extracts, GainsListed, IsFirstLacking, IsListedBy, NamesLacking, OutBecomes}
@@ -39,7 +38,6 @@ use Rattle.dsy_base.specs.Links.{DialState}
 use Rattle.dsy_base.specs.Maps.{Map, at_name}
 use Rattle.extract_command.proofs.Wrote.{wrote_on}
 use Rattle.extract_command.specs.Extract.{AreFilled, Assembled, CacheFilled, CacheGrows, Cleared, Clearing, ExtractEnds, FillsCache, HadFrom, ImageMade, Into, IsCounted, NeverFail, NotRenamed, OutMade, Renamed, Seeds, StopsLacking, Told, Undisturbed, base_of, beside, folder_of, in_place, temporary_out}
-use Rattle.store_chain.specs.Refusals.{Lacks}
 use Rattle.store_chain.specs.declared.refused.Refused.{Refused}
 use Rattle.store_chain.specs.declared.refused.Refused.TheVariants as refused
 

@@ -1,5 +1,5 @@
 -- What `cat` answers and prints where nothing fails.
-use Rattle.std.proofs.Common.{ap, arith, ◌⊎◌, ◌++◌, ◌≡◌, ◌∙◌, ℕ, ◌<◌, List, length, map, Option, Some, IfSome, IsTrue, refl, subst, sym, inl, inr, Result, Ok, Err}
+use Rattle.std.proofs.Common.{ap, arith, ◌⊎◌, ◌++◌, ◌≡◌, ◌∙◌, ℕ, ◌<◌, List, map, Option, Some, IfSome, IsTrue, refl, subst, sym, inl, inr, Result, Ok, Err}
 use Rattle.std.specs.Option.{option_map}
 use Rattle.caibx_codec.proofs.Rules.{rules_hold}
 use Rattle.caibx_codec.specs.Listing.{Listing, Rules, kind_of, size_of}
@@ -13,13 +13,13 @@ use Rattle.command_outcome.specs.declared.outcome.Outcome.TheVariants as ends
 use Rattle.command_groups.specs.Groups.{group_files, stores_of}
 use Rattle.command_indexes.specs.Places.{is_file}
 use Rattle.command_steps.proofs.Numbers.{rose_not_quiet}
-use Rattle.command_steps.specs.Sources.{ConsultsStores, StoreRose, location_files, said_at, storage_of}
+use Rattle.command_steps.specs.Sources.{ConsultsStores, storage_of}
 use Rattle.command_steps.specs.Stores.{are_folders}
 use Rattle.command_words.specs.declared.command.Location.{Location}
 use Rattle.command_worlds.specs.Steps.{outcome_of}
 use Rattle.command_worlds.specs.Worlds.{World}
 use Rattle.desync_cli.proofs.Grouped.{AreAlone, alone_files, none_lacking}
-use Rattle.desync_cli.proofs.Readings.{EndsSo, IsAt, IsQuiet, at_first, folder_unrisen, index_so, none_failed, stores_so}
+use Rattle.desync_cli.proofs.Readings.{EndsSo, IsAt, IsQuiet, at_first, folder_unrisen, index_so, stores_so}
 use Rattle.desync_cli.specs.Contents.{Contents, HasContents, folders_at, index_at, with_text}
 use Rattle.desync_cli.specs.Exact.{IsFirstLacking, IsGivenIn, NamesLacking, PrintsRange, bytes_put}
 use Rattle.dsy_base.specs.Maps.{Map}
@@ -28,7 +28,6 @@ use Rattle.image_reader.specs.Covered.{IsCovered, want_of}
 use Rattle.image_reader.specs.Images.{IsRange, SomeGivesEntry, image_of_stores}
 use Rattle.store_chain.specs.Giving.{LacksAll}
 use Rattle.store_chain.specs.Queries.{query_of}
-use Rattle.store_chain.specs.Refusals.{Lacks}
 use Rattle.store_chain.specs.declared.refused.Refused.{Refused}
 use Rattle.store_chain.specs.declared.refused.Refused.TheVariants as refused
 

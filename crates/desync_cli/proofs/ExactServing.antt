@@ -1,5 +1,5 @@
 -- What servers answer and leave where nothing fails.
-use Rattle.std.proofs.Common.{ap, arith, suc, true, false, ◌≡◌, ◌==◌, ◌∙◌, ℕ, ◌≤◌, Bool, List, [], ◌∷◌, ◌++◌, map, Option, Some, None, IfSome, refl, subst, sym, inl, inr, Result, Ok, Err}
+use Rattle.std.proofs.Common.{ap, arith, suc, true, false, ◌≡◌, ◌==◌, ◌∙◌, ℕ, ◌≤◌, Bool, List, [], ◌∷◌, ◌++◌, map, Option, Some, None, IfSome, IsTrue, refl, subst, sym, inl, inr, Result, Ok, Err}
 use Rattle.std.proofs.lemmas.List.{append-nil}
 use Rattle.std.proofs.lemmas.Option.{same_Some}
 use Rattle.std.specs.List.{All}
@@ -9,14 +9,19 @@ use Rattle.chunk_store.specs.declared.id.DigestKind.{DigestKind}
 use Rattle.command_outcome.specs.declared.outcome.Outcome.{Outcome}
 use Rattle.command_outcome.specs.declared.outcome.Outcome.TheVariants as ends
 use Rattle.command_steps.proofs.Numbers.{given_quiet, rose_not_quiet}
-use Rattle.command_steps.specs.Stores.{StoreTaken}
+use Rattle.command_groups.specs.Groups.{stores_of}
+use Rattle.command_steps.specs.Cache.{CacheOpened}
+use Rattle.command_steps.specs.Sources.{OnStorage, SourcesOpened}
+use Rattle.command_steps.specs.Stores.{StoreTaken, are_folders}
+use Rattle.command_words.specs.declared.command.Location.{Location}
 use Rattle.command_worlds.specs.Steps.{◌>>=◌, outcome_of}
 use Rattle.command_worlds.specs.Worlds.{OnDisk, Step, World}
 use Rattle.desync_cli.proofs.ExactFolders.{given_back, taken_from}
-use Rattle.desync_cli.proofs.Readings.{EndsSo, IsAt, IsQuiet, at_first, taken_so}
-use Rattle.desync_cli.specs.Contents.{Contents, HasContents, folder_at}
+use Rattle.desync_cli.proofs.Readings.{EndsSo, IsAt, IsQuiet, at_first, cache_so, stores_so, taken_so}
+use Rattle.desync_cli.specs.Contents.{Contents, Ending, HasContents, folder_at, folders_at}
 use Rattle.desync_cli.specs.Exact.{Answers, AreRepliedTo, ChunksAnswered, IsAnsweredInTurn, IsRepliedTo}
 use Rattle.dsy_base.specs.Counts.{Quiet, Rose}
+use Rattle.dsy_base.specs.Disk.{Disk}
 use Rattle.dsy_base.specs.Links.{LinkState, Traffic}
 use Rattle.dsy_base.specs.Maps.{Map, at_name}
 use Rattle.http_serve.proofs.Exact.{exact}
@@ -24,6 +29,8 @@ use Rattle.http_serve.specs.Protocols.{Answering, Protocol, Turn}
 use Rattle.http_serve.specs.Steps.{AreBothAlike, ServedState, Steps}
 use Rattle.http_serve.specs.Turns.{Served, Takes, files_left, replies}
 use Rattle.index_server.specs.Talks.{index_protocol}
+use Rattle.locked_shelf.specs.Keepings.{KeepsOpening}
+use Rattle.proxy_command.specs.ProxyServing.{OrUnheard, ProxyServed, ProxyServerEnds}
 use Rattle.server_commands.specs.ChunkServing.{ChunkServerEnds, ServesChunks, ServesChunksShort, chunk_protocol}
 use Rattle.server_commands.specs.IndexServing.{IndexServerEnds}
 use Rattle.server_commands.specs.Serving.{AreServed, FolderServed, FolderServing, Heard, IsServed, ServedBack, ServesInTurn, ServesInTurnShort, TakenUnheard, TakesFront, fresh}
@@ -169,6 +176,45 @@ module _ (x : Contents) (w v : World) (quiet : IsQuiet w v) (h : Heard) (heard :
       taken_so x w v quiet [] store (Answers (ChunksAnswered kind in_turn h writable) store) serving
       (λ f u there after. served_so store f u after (ServesChunks kind in_turn h writable) (ServesChunksShort kind in_turn h writable) (ChunksAnswered kind in_turn h writable) (chunks_so store f u after kind in_turn writable)) w (at_first x w has) r
       (taken_unheard store serving w r s)
+
+  -- the cache's folder is left so
+  proxied_so : (groups : List (List Location)) (e : ℕ) (q : List ℕ) (kind : DigestKind) (in_turn : Bool) (f : Map (List ℕ)) (u : World) → IsAt x w u → x.folders q ≡ Some f → (r : Result Unit Outcome) → OnStorage (ProxyServed h groups e q kind in_turn) u r v
+      → EndsSo x v (Answers (KeepsOpening kind) q f) (outcome_of r)
+  proxied_so groups e q kind in_turn f u at there (Ok _) s =
+      let p = s.0 in
+      let g = p.left.files in
+      let were : x.folders q ≡ p.held = subst (λ o. IfSome o (λ m. m q ≡ p.held)) at.has.folders p.was in
+      let kept : KeepsOpening kind f g = subst (λ o. IfSome o (λ first. KeepsOpening kind first g)) (sym were ∙ there) p.kept in
+      let y : Contents = record x { folders = at_name x.folders q g } in
+      inr (
+        y,
+        record {
+          files = p.adds.files ∙ at.has.files;
+          folders = p.back ∙ ap (option_map (λ m. at_name m q g)) at.has.folders;
+          printed = ap (λ o. o.taken) s.1 ∙ at.has.printed;
+        },
+        (refl, g, refl, kept),
+      )
+  proxied_so groups e q kind in_turn f u at there (Err ends.ListenFault) s = absurd (rose_not_quiet h.old.faults h.old.faults h.new.faults (omega arith) s.0.served.0 heard)
+  proxied_so groups e q kind in_turn f u at there (Err ends.Memory) s = inl refl
+  proxied_so groups e q kind in_turn f u at there (Err other) s = absurd s.0.served
+
+  -- nobody is heard where a step before refuses
+  or_heard : (step : Step Disk Unit) (then : Unit {0} → Step World Unit) (u : World) (r : Result Unit Outcome) → (OnDisk (OrUnheard h step) >>= then) u r v → (OnDisk step >>= then) u r v
+  or_heard step then u (Ok t) s = record { disk = s.disk; dial = s.dial; out = s.out; gave = s.gave; did = s.did; then = s.then }
+  or_heard step then u (Err o) (inl s) = inl (s.0.0, s.1, s.2)
+  or_heard step then u (Err o) (inr s) = inr (record { disk = s.disk; dial = s.dial; out = s.out; gave = s.gave; did = s.did; then = s.then })
+
+  pub proxy_server_so : (groups : List (List Location)) (retries : ℕ) (cache : List ℕ) (kind : DigestKind) (workers : ℕ) → IsTrue (are_folders (stores_of groups)) → HasContents w x → (r : Result Unit Outcome) → ProxyServerEnds h groups retries cache kind workers w r v
+      → EndsSo x v (folders_at (stores_of groups) (λ fs. folder_at cache (Answers (KeepsOpening kind) cache))) (outcome_of r)
+  proxy_server_so groups retries cache kind workers all has r s =
+      let stores = stores_of groups in
+      let end : Ending = folder_at cache (Answers (KeepsOpening kind) cache) in
+      let serving : Unit {0} → Step World Unit = λ u. OnStorage (ProxyServed h groups retries cache kind (workers == 1)) in
+      let rest : Unit {0} → Step World Unit = λ u. OnDisk (OrUnheard h (CacheOpened stores (Some cache))) >>= serving in
+      stores_so x w v quiet stores all (λ fs. end) rest
+      (λ fs e at are r t. cache_so x w v quiet stores cache (Answers (KeepsOpening kind) cache) serving (λ f u there is. proxied_so groups retries cache kind (workers == 1) f u there is) e at r (or_heard (CacheOpened stores (Some cache)) serving e r t))
+      w (at_first x w has) r (or_heard (SourcesOpened stores) rest w r s)
 
   pub index_server_so : (folder : List ℕ) (writable : Bool) → HasContents w x → (r : Result Unit Outcome) → IndexServerEnds h folder writable w r v → EndsSo x v (folder_at folder (Answers (IsAnsweredInTurn (index_protocol writable) h) folder)) (outcome_of r)
   index_server_so folder writable has r s =

@@ -10,7 +10,7 @@ use Rattle.command_outcome.specs.declared.outcome.Outcome.TheVariants as ends
 use Rattle.command_steps.proofs.Numbers.{rose_not_quiet}
 use Rattle.command_indexes.specs.Places.{is_file}
 use Rattle.command_steps.specs.InputFiles.{ImageOpened}
-use Rattle.command_steps.specs.Sources.{IsThere, OnStorage, StoreRose, location_files, said_at, storage_of}
+use Rattle.command_steps.specs.Sources.{IsThere, OnStorage, storage_of}
 use Rattle.command_steps.specs.Stores.{are_folders}
 use Rattle.command_words.specs.declared.command.Location.{Location}
 use Rattle.command_worlds.specs.Printing.{Printed}
@@ -18,7 +18,7 @@ use Rattle.command_worlds.specs.Steps.{◌>>=◌, outcome_of}
 use Rattle.command_worlds.specs.Worlds.{OnDisk, OnOut, Pure, World}
 use Rattle.command_groups.specs.Groups.{group_files, stores_of}
 use Rattle.desync_cli.proofs.Grouped.{AreAlone, alone_files, none_failed_first}
-use Rattle.desync_cli.proofs.Readings.{EndsSo, IsAt, IsQuiet, at_first, at_read, bound_so, ends_as, file_unrisen, folder_unrisen, folders_there, folders_unreached, image_so, index_so, none_failed}
+use Rattle.desync_cli.proofs.Readings.{EndsSo, IsAt, IsQuiet, at_first, at_read, bound_so, ends_as, file_unrisen, folder_unrisen, folders_there, folders_unreached, image_so, index_so}
 use Rattle.desync_cli.specs.Contents.{Contents, Ending, HasContents, PrintsText, folders_at, image_at, index_at, with_text}
 use Rattle.desync_cli.specs.Exact.{Demonstrates, IsCompared, in_stores}
 use Rattle.dsy_base.specs.Maps.{Map}

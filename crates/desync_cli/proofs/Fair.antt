@@ -1,5 +1,5 @@
 -- What each command leaves, and what its refusals tell: a lemma for each step of its own, and a line a command.
-use Rattle.std.proofs.Common.{◌≡◌, ◌==◌, ◌&&◌, ℕ, zero, suc, List, [], ◌∷◌, map, All, IfSome, IsSomeAnd, Bool, IsTrue, is_some, not, true, false, Option, Some, None, Result, Ok, Err, refl, sym, subst, inl, inr, arith, cond}
+use Rattle.std.proofs.Common.{◌≡◌, ◌&&◌, ℕ, zero, suc, List, [], ◌∷◌, map, All, IfSome, IsSomeAnd, Bool, IsTrue, is_some, not, true, false, Option, Some, None, Result, Ok, Err, refl, sym, subst, inl, inr, arith, cond}
 use Rattle.std.specs.List.{Any, Contains}
 use Rattle.std.specs.Map.{count_at}
 use Rattle.buzhash_cut.specs.Sizes.{Sizes}
@@ -28,7 +28,7 @@ use Rattle.desync_cli.specs.Unfailed.{FetchTaken, IndexTaken, NothingFailed, Rep
 use Rattle.command_worlds.specs.Steps.{Passed, answer_of, outcome_of}
 use Rattle.command_worlds.specs.Worlds.{FileRose, FolderRose, NoFault, Step, World, Writes, world}
 use Rattle.command_steps.proofs.Dialed.{dials_same}
-use Rattle.command_indexes.proofs.FairSteps.{IsFair, IsLeft, IsRefusal, IsStep, Unread, adds, behind, between, bound, consults, cache_step, fair_longer, image_step, indexes_step, left_twice, on_disk, on_out, on_sources, printed_step, pure_step, reads, round, source_failed, source_taken_step, sources_fair, sources_step, taken_step, whole, writes}
+use Rattle.command_indexes.proofs.FairSteps.{IsFair, IsLeft, IsRefusal, IsStep, Unread, adds, behind, between, bound, consults, cache_step, fair_longer, image_step, indexes_step, left_twice, on_disk, on_out, on_sources, printed_step, pure_step, reads, round, source_taken_step, sources_fair, sources_step, taken_step, whole, writes}
 use Rattle.command_groups.specs.Groups.{stores_of}
 use Rattle.command_steps.proofs.Numbers.{rose_not_quiet}
 use Rattle.desync_cli.proofs.Grouped.{HaveStores, group_failed, lacking_failed}
@@ -43,6 +43,7 @@ use Rattle.extract_command.proofs.Wrote.{wrote_on}
 use Rattle.extract_command.specs.Extract.{CacheFilled, Clearing, FillsCache, ImageMade, Into, NeverFail, OutMade, Renamed, Seeds, beside, in_place, never_fail, temporary_out}
 use Rattle.store_commands.specs.Info.{IdsCounted, NotAsked}
 use Rattle.image_commands.specs.Make.{ImageStored, IndexWritten, SizesJudged, WritesStore}
+use Rattle.proxy_command.specs.ProxyServing.{OrUnheard, ProxyServed, ServesProxyTo}
 use Rattle.server_commands.specs.Serving.{FolderServed, FolderServing, Heard, TakenUnheard}
 use Rattle.store_commands.specs.VerifyIndex.{ImageChecked}
 use Rattle.verify_tool.specs.Pruning.{is_listed_in}
@@ -57,7 +58,6 @@ use Rattle.dsy_base.specs.Disk.{Disk, Output}
 use Rattle.dsy_base.specs.Links.{Traffic}
 use Rattle.dsy_base.specs.Maps.{Map}
 use Rattle.http_read.specs.Refusals.{IsUnacceptable}
-use Rattle.store_chain.specs.Refusals.{Lacks}
 use Rattle.cache_fill.specs.Filling.{entry_want}
 use Rattle.image_demo.specs.Figures.{text_of_figures}
 use Rattle.verify_tool.specs.Texts.{text_of_chunks, text_of_info}
@@ -317,6 +317,30 @@ served_step f n o x p h q held served short same = record { fair = fair; leaves 
   leaves d e (Ok u) t = adds p t.1
   leaves d e (Err r) t = adds p t.1
 
+-- a step whose refusal nobody hears of
+or_unheard_step : {W A : Type 0} {at : W → World} {s : Spares} {x : Parts} (h : Heard) (step : Step W A) → IsStep at s x step → IsStep at s x (OrUnheard h step)
+or_unheard_step {W} {A} {at} {s} {x} h step k = record { fair = λ w v o t. k.fair w v o t.0; leaves = leaves } where
+  leaves : (w v : W) (r : Result A Outcome) → OrUnheard h step w r v → IsLeft s (at w) (at v)
+  leaves w v (Ok a) t = k.leaves w v (Ok a) t
+  leaves w v (Err o) t = k.leaves w v (Err o) t.0
+
+proxied_step : (x : Parts) (p : Output) (h : Heard) (groups : List (List Location)) (e : ℕ) (cache : List ℕ) (kind : DigestKind) (in_turn : Bool) → x.listener ≡ (h.old.faults, h.new.faults)
+    → IsStep (behind p) (record { files = true; folders = false; dial = are_folders (stores_of groups); out = true }) x (ProxyServed h groups e cache kind in_turn)
+proxied_step x p h groups e cache kind in_turn same = record {
+  fair = λ w v o t. fair w v o t.held t.holds t.served;
+  leaves = λ w v r t. record {
+    keeps = record { files = λ y. t.adds.files; folders = λ y. absurd (cc); dial = t.undialed; out = λ y. refl };
+    files = t.adds.counts;
+    folders = t.adds.folder_counts;
+    dial = t.dials;
+    out = omega arith;
+  };
+} where
+  fair : (w v : Storage) (o : Outcome) (held : Option (Map (List ℕ))) (holds : List (Option (Map (List ℕ)))) → ServesProxyTo kind h held holds in_turn (Err o) → IsFair x o (behind p w) (behind p v)
+  fair w v ends.ListenFault held holds t = (tt, subst (λ (y : ℕ × ℕ). Rose y.0 y.1) (sym same) t.0)
+  fair w v ends.Memory held holds t = (tt, tt)
+  fair w v other held holds t = absurd t
+
 judged_fair : (x : Parts) (sizes : List ℕ) (o : Outcome) (w v : World) → SizesJudged sizes (Err o) → IsFair x o w v
 judged_fair x sizes (ends.Sizes fault) w v h = (tt, tt)
 judged_fair x sizes other w v h = absurd h
@@ -368,6 +392,7 @@ command_step sure h commands.Help f = on_out (λ d. printed_step _ _ _ _ d (help
 command_step sure h commands.Version f = on_out (λ d. printed_step _ _ _ _ d (help_text topics.Version))
 command_step sure h (commands.HelpOn kind) f = on_out (λ d. printed_step _ _ _ _ d (help_text (topics.Command kind)))
 command_step sure h (commands.ChunkServer store host port writable workers digest) f = bound (on_disk (λ p. unheard_step _ _ _ _ p h store)) (λ held. on_disk (λ p. served_step _ _ _ _ p h store held _ _ refl))
+command_step sure h (commands.Proxy stores retries cache host port workers digest) f = bound (on_disk (λ p. or_unheard_step h _ (sources_step _ _ p (stores_of stores)))) (λ u. bound (on_disk (λ p. or_unheard_step h _ (cache_step _ _ p (stores_of stores) (Some cache)))) (λ u. on_sources (λ p. proxied_step _ p h stores retries cache digest _ refl)))
 command_step sure h (commands.IndexServer store host port writable) f = bound (on_disk (λ p. unheard_step _ _ _ _ p h store)) (λ held. on_disk (λ p. served_step _ _ _ _ p h store held _ _ refl))
 
 -- a command that listens is none that doesn't
@@ -478,6 +503,7 @@ words_quiet words other h = absurd h
 -- a listener that isn't used hasn't failed
 quiet_listener : (k : Heard) (c : Command) → Quiet k.old.faults k.new.faults → Quiet (parts k c).listener.0 (parts k c).listener.1
 quiet_listener k (commands.ChunkServer store host port writable workers digest) h = h
+quiet_listener k (commands.Proxy stores retries cache host port workers digest) h = h
 quiet_listener k (commands.IndexServer store host port writable) h = h
 quiet_listener k other h = record { same = omega arith; below = omega arith }
 

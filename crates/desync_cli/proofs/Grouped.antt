@@ -1,5 +1,5 @@
 -- Stores in groups: how many they are, which of them failed, and groups of one store each.
-use Rattle.std.proofs.Common.{◌≡◌, ◌++◌, ◌+◌, ◌<◌, ◌≤◌, ℕ, zero, suc, IsTrue, List, [], ◌∷◌, Option, length, map, sum_by, take, refl, sym, subst, ap, ap₂, ◌∙◌, inl, inr, arith}
+use Rattle.std.proofs.Common.{◌≡◌, ◌++◌, ◌+◌, ◌≤◌, ℕ, zero, suc, IsTrue, List, [], ◌∷◌, Option, length, map, sum_by, take, refl, sym, subst, ap, ap₂, ◌∙◌, inl, inr, arith}
 use Rattle.std.specs.List.{All}
 use Rattle.std.proofs.lemmas.Bool.{cases_lt}
 use Rattle.std.proofs.lemmas.List.{length-append, map-append}
@@ -7,7 +7,7 @@ use Rattle.std.proofs.lemmas.List.Elements.{All-head, All-tail}
 use Rattle.std.proofs.lemmas.List.Sums.{sum_by-cons}
 use Rattle.chunk_store.specs.Said.{Said}
 use Rattle.command_groups.specs.Groups.{AreGroups, first_store, group_files, stores_of}
-use Rattle.command_groups.specs.Lacking.{FailsFirstIn, GroupFailsFirst, GroupRose, GroupsLack, HaveLackedIn, RoseBy, group_said}
+use Rattle.command_groups.specs.Lacking.{FailsFirstIn, GroupFailsFirst, GroupRose, GroupsLack, HaveLackedIn, RoseBy}
 use Rattle.command_groups.specs.Numbers.{IsNumbered}
 use Rattle.command_steps.specs.Sources.{Storage, StoreRose, location_files, store_at}
 use Rattle.command_steps.specs.Stores.{are_folders}

@@ -4,8 +4,8 @@ use Rattle.std.proofs.Common.{◌≡◌, ℕ, zero, suc, ◌+◌, ◌-◌, ◌�
 use Rattle.std.proofs.lemmas.List.{length-append}
 use Rattle.std.specs.List.{list_any, onto_first}
 use Rattle.cat_command.specs.Cat.{range_size}
-use Rattle.command_line.specs.CommandLine.{command_by, command_line, command_by_roles as parsed, command_or_help, complete, group_of, is_alone, read_location}
-use Rattle.command_line.specs.Judging.{judged, missing_words}
+use Rattle.command_line.specs.CommandLine.{command_by, command_line, command_by_roles as parsed, command_or_help, complete, group_of, is_alone, proxy, read_location}
+use Rattle.command_line.specs.Judging.{judged, whole_fault}
 use Rattle.command_outcome.specs.ErrorLines.{name_in}
 use Rattle.command_outcome.specs.declared.outcome.Outcome.{Outcome}
 use Rattle.command_outcome.specs.declared.outcome.Outcome.TheVariants as ends
@@ -13,9 +13,9 @@ use Rattle.command_worlds.specs.Steps.{outcome_of}
 use Rattle.command_groups.specs.Groups.{stores_of}
 use Rattle.command_steps.specs.Stores.{folder_name}
 use Rattle.command_worlds.specs.Worlds.{World}
-use Rattle.command_words.specs.Locations.{contains_scheme, is_out_of_room, is_plain_http, location_of, parts_of, server_of, url_location}
+use Rattle.command_words.specs.Locations.{contains_scheme, is_plain_http, location_of, parts_of, server_of, url_location}
 use Rattle.command_words.specs.OptionTable.{command_named}
-use Rattle.command_words.specs.Roles.{WordsByRole, by_role, role_number, words_as}
+use Rattle.command_words.specs.Roles.{WordsByRole, by_role, is_given, role_number, words_as}
 use Rattle.command_words.specs.declared.command.Command.{Command}
 use Rattle.command_words.specs.declared.command.Command.TheVariants as commands
 use Rattle.command_words.specs.declared.command.Location.{Location}
@@ -27,11 +27,10 @@ use Rattle.command_words.specs.declared.option_table.CommandKind.TheVariants as 
 use Rattle.command_words.specs.declared.option_table.OptionKind.TheVariants as option
 use Rattle.command_words.specs.declared.roles.Role.{Role}
 use Rattle.command_words.specs.declared.roles.Role.TheVariants as role
-use Rattle.command_words.specs.declared.usage.UsageWhy.{UsageWhy}
 use Rattle.command_words.specs.declared.usage.WordsFault.{WordsFault}
 use Rattle.desync_cli.specs.Commands.{DesyncEnds, CommandEnds, NoCommand, command_said}
 use Rattle.desync_cli.proofs.Fair.{begun}
-use Rattle.desync_cli.proofs.Named.{AllShort, Shorts, bound, cache_opened, checked, chopped, counted, filled, image_opened, index_got, indexes_got, indexes_read, judged as sizes_judged, on_disk, on_out, on_sources, opened, out_made, printed, pruned, range_put, rehearsed, served, source_taken, stored, taken, unheard, verified, written}
+use Rattle.desync_cli.proofs.Named.{AllShort, Shorts, bound, cache_opened, checked, chopped, counted, filled, image_opened, index_got, indexes_got, indexes_read, judged as sizes_judged, on_disk, on_out, on_sources, opened, or_unheard, out_made, printed, proxied, pruned, range_put, rehearsed, served, source_taken, stored, taken, unheard, verified, written}
 use Rattle.extract_command.specs.Extract.{never_fail, temporary_out}
 use Rattle.server_commands.specs.Serving.{Heard}
 
@@ -53,6 +52,7 @@ HasShort n (commands.Info stores retries index) = AllShort n (map folder_name (s
 HasShort n (commands.Verify store repair workers digest) = length store ≤ n
 HasShort n (commands.Prune store indexes) = (length store ≤ n) × AllShort n indexes
 HasShort n (commands.ChunkServer store host port writable workers digest) = length store ≤ n
+HasShort n (commands.Proxy stores retries cache host port workers digest) = AllShort n (map folder_name (stores_of stores)) × (length cache ≤ n)
 HasShort n (commands.IndexServer store host port writable) = length store ≤ n
 HasShort n other = Unit {0}
 
@@ -76,6 +76,7 @@ command_short n sure h commands.Help f = on_out (printed n _)
 command_short n sure h commands.Version f = on_out (printed n _)
 command_short n sure h (commands.HelpOn kind) f = on_out (printed n _)
 command_short n sure h (commands.ChunkServer store host port writable workers digest) f = bound (on_disk (unheard n h store f)) (λ held. on_disk (served n h store held _ _))
+command_short n sure h (commands.Proxy stores retries cache host port workers digest) f = bound (on_disk (or_unheard n h _ (opened n (stores_of stores) f.0))) (λ u. bound (on_disk (or_unheard n h _ (cache_opened n (stores_of stores) (Some cache) (f.1, tt)))) (λ u. on_sources (proxied n h stores retries cache digest _)))
 command_short n sure h (commands.IndexServer store host port writable) f = bound (on_disk (unheard n h store f)) (λ held. on_disk (served n h store held _ _))
 
 -- ---- the words
@@ -173,17 +174,17 @@ module _ (k : ℕ) where
     parsed_short kinds.Info = (groups_short _ (as_role (role.Value option.Store)), one role.Operand 0)
     parsed_short kinds.Verify = one (role.Value option.Store) 0
     parsed_short kinds.Prune = (one (role.Value option.Store) 0, longer _ (as_role role.Operand))
-    parsed_short kinds.ChunkServer = one (role.Value option.Store) 0
+    parsed_short kinds.ChunkServer = either (HasShort (k + 11)) (is_given option.Cache p.roles) (proxy p) _ (groups_short _ (as_role (role.Value option.Store)), one (role.Value option.Cache) 0) (one (role.Value option.Store) 0)
     parsed_short kinds.IndexServer = one (role.Value option.Store) 0
     parsed_short kinds.Demo = tt
 
-  completed : (m : Option UsageWhy) (place : ℕ) (c : Command) → HasShort (k + 11) c → Said (complete m place c)
-  completed (Some y) place c h = tt
-  completed None place c h = h
+  completed : (f : Option WordsFault) (c : Command) → HasShort (k + 11) c → Said (complete f c)
+  completed (Some e) c h = tt
+  completed None c h = h
 
   by_kind : (kind : CommandKind) (words : List (List ℕ)) → AllShort k words → (r : Result (List Role) WordsFault) → Said (command_by kind words r)
   by_kind kind words all (Err e) = tt
-  by_kind kind words all (Ok roles) = completed (missing_words kind roles) (length words + 1) (parsed kind (by_role roles words)) (parsed_short (by_role roles words) all kind)
+  by_kind kind words all (Ok roles) = completed (whole_fault kind (by_role roles words)) (parsed kind (by_role roles words)) (parsed_short (by_role roles words) all kind)
 
   or_help : (o : Option CommandKind) (words : List (List ℕ)) → AllShort k words → Said (command_or_help o words)
   or_help None words all = tt

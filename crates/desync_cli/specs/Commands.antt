@@ -26,6 +26,7 @@ use Rattle.cat_command.specs.Cat.{CatEnds}
 use Rattle.store_commands.specs.Info.{InfoEnds}
 use Rattle.print_commands.specs.ListChunks.{ListChunksEnds}
 use Rattle.store_commands.specs.Prune.{IsPruned, PruneEnds}
+use Rattle.proxy_command.specs.ProxyServing.{ProxyServerEnds}
 use Rattle.server_commands.specs.ChunkServing.{ChunkServerEnds}
 use Rattle.server_commands.specs.IndexServing.{IndexServerEnds}
 use Rattle.server_commands.specs.Serving.{Heard}
@@ -45,6 +46,7 @@ use Rattle.command_worlds.specs.Worlds.{OnOut, Step, World}
 -- whether it listens for connections
 abbrev pub listens : Command → Bool
 listens (commands.ChunkServer store host port writable workers digest) = true
+listens (commands.Proxy stores retries cache host port workers digest) = true
 listens (commands.IndexServer store host port writable) = true
 listens other = false
 
@@ -69,6 +71,8 @@ CommandEnds sure h commands.Version = OnOut (Printed (help_text topics.Version))
 CommandEnds sure h (commands.HelpOn kind) = OnOut (Printed (help_text (topics.Command kind)))
 CommandEnds sure h (commands.ChunkServer store host port writable workers digest) =
     ChunkServerEnds digest h store writable workers
+CommandEnds sure h (commands.Proxy stores retries cache host port workers digest) =
+    ProxyServerEnds h stores retries cache digest workers
 CommandEnds sure h (commands.IndexServer store host port writable) = IndexServerEnds h store writable
 
 -- each group of stores is one store
@@ -103,6 +107,8 @@ spares (commands.Prune store indexes) = record
     { files = true; folders = false; dial = are_files indexes; out = true }
 spares (commands.ChunkServer store host port writable workers digest) = record
     { files = true; folders = false; dial = true; out = true }
+spares (commands.Proxy stores retries cache host port workers digest) = record
+    { files = true; folders = false; dial = are_folders (stores_of stores); out = true }
 spares (commands.IndexServer store host port writable) = record
     { files = true; folders = false; dial = true; out = true }
 spares other = record { files = true; folders = true; dial = true; out = false }
@@ -137,6 +143,14 @@ parts h (commands.Prune store indexes) = record
     { image = []; indexes = indexes; stores = locations.Folder store ∷ []; target = []; cache = []; listener = unheard }
 parts h (commands.ChunkServer store host port writable workers digest) = record
     { image = []; indexes = []; stores = []; target = []; cache = []; listener = (h.old.faults, h.new.faults) }
+parts h (commands.Proxy stores retries cache host port workers digest) = record {
+  image = [];
+  indexes = [];
+  stores = stores_of stores;
+  target = [];
+  cache = [];
+  listener = (h.old.faults, h.new.faults);
+}
 parts h (commands.IndexServer store host port writable) = record
     { image = []; indexes = []; stores = []; target = []; cache = []; listener = (h.old.faults, h.new.faults) }
 parts h other = record { image = []; indexes = []; stores = []; target = []; cache = []; listener = unheard }

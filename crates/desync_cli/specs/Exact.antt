@@ -335,6 +335,10 @@ EndingOf h (commands.Prune store indexes) = do
 EndingOf h (commands.ChunkServer store host port writable workers digest) = do
   f ← folder_at store
   Answers (ChunksAnswered digest (workers == 1) h writable) store f
+EndingOf h (commands.Proxy stores retries cache host port workers digest) = do
+  fs ← folders_at (stores_of stores)
+  f ← folder_at cache
+  Answers (KeepsOpening digest) cache f
 EndingOf h (commands.IndexServer store host port writable) = do
   f ← folder_at store
   Answers (IsAnsweredInTurn (index_protocol writable) h) store f

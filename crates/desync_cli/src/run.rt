@@ -38,6 +38,7 @@ use image_commands::make::{Making, make};
 use print_commands::demo::demo;
 use print_commands::help::help;
 use print_commands::list_chunks::print_chunks;
+use proxy_command::proxy::{ProxyWords, proxy_server};
 use server_commands::address::Address;
 use server_commands::chunks::{ChunkService, chunk_server};
 use server_commands::indexes::index_server;
@@ -104,6 +105,11 @@ where
             let address = Address { host, port };
             let service = ChunkService { address, kind: digest, writable, workers };
             chunk_server(rt, alloc, files, listen, store, service)
+        }
+        Command::Proxy { stores, retries, cache, host, port, workers, digest } => {
+            let address = Address { host, port };
+            let words = ProxyWords { stores, retries, cache, address, kind: digest, workers };
+            proxy_server(rt, alloc, files, dial, listen, words)
         }
         Command::IndexServer { store, host, port, writable } =>
             index_server(alloc, files, listen, store, Address { host, port }, writable),

@@ -1,5 +1,5 @@
 -- The steps of a folder of indexes, by what was found and put.
-use Rattle.std.proofs.Common.{◌≡◌, ℕ, ◌≤◌, List, length, nat_le, ◌&&◌, Bool, true, false, cond, Result, Ok, Err, Option, Some, None, inl, inr, refl, sym, ap, subst, ◌∙◌, arith, is_ok}
+use Rattle.std.proofs.Common.{◌≡◌, ℕ, ◌≤◌, List, Bool, true, false, cond, Result, Ok, Err, Option, Some, None, inl, refl, sym, ap, ◌∙◌, arith}
 use Rattle.std.specs.Prelude.{IfOk, IfSome}
 use Rattle.std.specs.Option.{option_map}
 use Rattle.dsy_base.specs.Folders.{put_in}
@@ -8,7 +8,7 @@ use Rattle.http_serve.specs.Answers.{Answer, bare}
 use Rattle.http_wire.specs.declared.index_request.IndexAct.{IndexAct}
 use Rattle.http_wire.specs.declared.index_request.IndexAct.TheVariants as act
 use Rattle.index_server.specs.Answers.{IndexFolder, AnswersIndexOrFails, index_answer_to, index_files_after, index_held, is_index, with_index, with_index_length}
-use Rattle.index_server.specs.Finding.{FindsFile, index_answer_by, index_asked_by}
+use Rattle.index_server.specs.Finding.{index_answer_by, index_asked_by}
 use Rattle.index_server.specs.declared.state.ReadMethod.{ReadMethod}
 use Rattle.index_server.specs.declared.state.ReadMethod.TheVariants as method
 

@@ -1,21 +1,17 @@
 -- What is fetched as an index, by what was fetched as a file.
-use Rattle.std.proofs.Common.{◌≡◌, ◌≢◌, ℕ, ◌≤◌, List, [], ◌∷◌, ◌++◌, Ok, Err, Some, None, refl, sym, ◌∙◌, ap, subst, ◌⊎◌, inl, inr}
+use Rattle.std.proofs.Common.{◌≡◌, ◌≢◌, ℕ, List, [], Ok, Err, Some, None, refl, ◌⊎◌, inr}
 use Rattle.std.specs.Prelude.{Option, Result}
 use Rattle.caibx_codec.specs.Listing.{Listing}
-use Rattle.caibx_codec.specs.Reading.{index_in}
-use Rattle.caibx_codec.specs.Spelling.{IsIndexFile}
 use Rattle.caibx_fields.specs.Limits.{file_limit}
-use Rattle.caibx_fields.specs.declared.fault.IndexFault.{IndexFault}
-use Rattle.dsy_base.specs.Counts.{Rose, raised}
 use Rattle.dsy_base.specs.Links.{DialState, Traffic}
 use Rattle.http_read.specs.Asks.{IsFront}
-use Rattle.http_fetch.specs.Fetching.{CountsFetch, GivesBody, OnRefusal, RefusesGet, RepliesToGet}
+use Rattle.http_fetch.specs.Fetching.{CountsFetch, GivesBody, OnRefusal, RefusesGet}
 use Rattle.http_read.specs.Remotes.{AddsOne}
 use Rattle.http_read.specs.Replies.{SaysStatus}
 use Rattle.http_fetch.specs.declared.fetch.Unfetched.{Unfetched}
 use Rattle.http_fetch.specs.declared.fetch.Unfetched.TheVariants as unfetched
 use Rattle.http_wire.specs.declared.reply.Method.TheVariants as method
-use Rattle.index_server.specs.Fetching.{Fetched, GivesIndex, GivesNoIndex, OnIndexReply, ReadsFetched, RepliesOfIndex, asks_index, fetch_fault}
+use Rattle.index_server.specs.Fetching.{Fetched, OnIndexReply, ReadsFetched, RepliesOfIndex, asks_index, fetch_fault}
 use Rattle.index_server.specs.declared.fetch_index.FetchFault.{FetchFault}
 use Rattle.index_server.specs.declared.fetch_index.FetchFault.TheVariants as fault
 

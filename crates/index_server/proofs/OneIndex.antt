@@ -10,7 +10,7 @@ use Rattle.dsy_base.specs.Links.{Traffic}
 use Rattle.http_fetch.specs.Fetching.{RepliesToGet}
 use Rattle.http_fetch.specs.declared.fetch.Unfetched.{Unfetched}
 use Rattle.http_fetch.specs.declared.fetch.Unfetched.TheVariants as unfetched
-use Rattle.index_server.specs.Fetching.{ReadsFetched, RepliesOfIndex, fetch_fault}
+use Rattle.index_server.specs.Fetching.{RepliesOfIndex, fetch_fault}
 use Rattle.index_server.specs.declared.fetch_index.FetchFault.{FetchFault}
 use Rattle.index_server.specs.declared.fetch_index.FetchFault.TheVariants as fault
 

@@ -1,5 +1,5 @@
 -- What the bytes of a file are read as.
-use Rattle.std.proofs.Common.{◌≡◌, ℕ, ◌++◌, List, [], length, cond, Result, Ok, Err, Some, refl, sym, subst}
+use Rattle.std.proofs.Common.{◌≡◌, ℕ, ◌++◌, List, [], length, cond, Result, Ok, Err, Some, sym, subst}
 use Rattle.std.proofs.lemmas.List.{append-nil}
 use Rattle.caibx_codec.specs.Answers.{FindsIndex, Judges}
 use Rattle.caibx_codec.specs.Listing.{Listing}

@@ -1,8 +1,8 @@
 -- A connection to a server of indexes as a whole.
-use Rattle.std.specs.Prelude.{◌≡◌, ℕ, ◌++◌, List, Bool, true, if◌then◌else◌, map, Option, Some}
+use Rattle.std.specs.Prelude.{◌≡◌, ℕ, List, Bool, true, if◌then◌else◌, Option, Some}
 use Rattle.dsy_base.specs.Maps.{Map}
 use Rattle.httparse.specs.Grammar.{RequestHead}
-use Rattle.http_serve.specs.Protocols.{Answering, Asked, Protocol, RequestReading, Turn}
+use Rattle.http_serve.specs.Protocols.{Answering, Asked, Protocol, RequestReading}
 use Rattle.http_serve.specs.Requests.{AreRequests, IsOver}
 use Rattle.http_serve.specs.Turns.{files_left, replies, turns_of}
 use Rattle.http_wire.specs.IndexRequest.{bad_index_request, index_request_of, is_refused}

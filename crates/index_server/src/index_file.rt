@@ -8,17 +8,18 @@ ghost use Rattle.dsy_base.specs.Maps.{ReadGives};
 ghost use Rattle.index_server.specs.Answers.{IsSpelled, IsUnfailedRead, first_read, index_held, is_index, index_folder};
 ghost use Rattle.index_server.specs.Finding.{FindsFile, ReadsAsIndex};
 
+use caibx_codec::check::check_index;
 use caibx_codec::index::Index;
 use caibx_codec::laws::fault_stays;
 use caibx_codec::reader::IndexReader;
 use caibx_codec::reading::ReadFault;
 use caibx_fields::format::FILE_LIMIT;
-use dsy_base::fault::{FileFault, IoFault, Memory};
+use dsy_base::fault::{FileFault, IoFault};
 use dsy_base::look::Look;
 use std::alloc::{AllocError, Global};
 use std::marker::Model;
 
-/// How many bytes of a file are read at first: 256 KiB, which is an index of 6,500 chunks.
+/// How many bytes of a file are read at first, and how many more each time: 256 KiB, an index of 6,500 chunks.
 const FIRST_READ: usize = 262_144;
 
 // A buffer of this size.
@@ -28,16 +29,15 @@ fn buffer_of(alloc: Global, size: usize) -> Result<Vec<u8>, AllocError>
     vec![in alloc; 0u8; size]
 }
 
-// Makes the buffer longer, at least twice as long where it may be. What stands in it is to be read anew. A folder of
-// the operating system tells by the file's size that it has more bytes, and reads nothing, so a file is read once.
+// Makes the buffer longer by as many bytes, or as many as it may have. What stands in it is to be read anew. A folder
+// of the operating system tells by the file's size that it has more bytes, and reads nothing, so a file is read once.
 fn grow(alloc: Global, buffer: &mut Vec<u8>) -> Result<(), AllocError>
     requires room { length buffer.old.items < file_limit }
     ensures ok { OnOk result (length buffer.old.items < length buffer.new.items) }
     ensures room { length buffer.new.items ≤ file_limit }
 {
-    let size = (buffer.len() * 2).max(FIRST_READ).min(FILE_LIMIT as usize);
-    *buffer = buffer_of(alloc, size)?;
-    Ok(())
+    let more = buffer_of(alloc, FIRST_READ.min(FILE_LIMIT as usize - buffer.len()))?;
+    buffer.extend_from_slice(more.as_slice())
 }
 
 // Reads the file of this name to the front of the buffer, which becomes as long as is needed. `Longer`: it has more
@@ -89,15 +89,11 @@ pub(crate) fn index_of(alloc: Global, bytes: &[u8]) -> Result<Index, ReadFault>
 }
 
 /// Whether the bytes are the file of a valid index.
-pub(crate) fn is_index(alloc: Global, bytes: &[u8]) -> Result<bool, Memory>
-    ensures value { IfOk result (λ t. t ≡ is_index bytes.now) }
-    ensures exactly { IfOk result (λ t. IsSpelled t bytes.now) }
+pub(crate) fn is_index(bytes: &[u8]) -> bool
+    ensures value { result ≡ is_index bytes.now }
+    ensures exactly { IsSpelled result bytes.now }
 {
-    match index_of(alloc, bytes) {
-        Ok(_) => Ok(true),
-        Err(ReadFault::Bad(_)) => Ok(false),
-        Err(ReadFault::Over | ReadFault::Memory) => Err(Memory),
-    }
+    check_index(bytes).is_ok()
 }
 
 /// The file of a valid index, which contracts see as its bytes.
@@ -119,15 +115,14 @@ impl Model for IndexFile {
 
 impl IndexFile {
     // These bytes, if they are the file of a valid index.
-    fn of(alloc: Global, bytes: Vec<u8>) -> Result<Option<IndexFile>, IoFault>
+    fn of(bytes: Vec<u8>) -> Option<IndexFile>
         requires size { length bytes.items ≤ file_limit }
-        ensures value { IfOk result (λ o. o ≡ index_held (Some bytes.items)) }
-        ensures only { result ≡ Err IoFault.Failed → ⊥ }
+        ensures value { result ≡ index_held (Some bytes.items) }
     {
-        match is_index(alloc, bytes.as_slice()) {
-            Ok(true) => Ok(Some(IndexFile { bytes })),
-            Ok(false) => Ok(None),
-            Err(_) => Err(IoFault::Memory),
+        if is_index(bytes.as_slice()) {
+            Some(IndexFile { bytes })
+        } else {
+            None
         }
     }
 
@@ -149,7 +144,7 @@ impl IndexFile {
         match read_whole(alloc, folder, name, &mut bytes) {
             Ok(n) => {
                 bytes.truncate(n);
-                IndexFile::of(alloc, bytes)
+                Ok(IndexFile::of(bytes))
             }
             Err(FileFault::Absent | FileFault::Longer) => Ok(None),
             Err(FileFault::Failed) => Err(IoFault::Failed),

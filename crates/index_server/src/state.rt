@@ -156,10 +156,10 @@ impl<F: Folder> IndexState<F> {
         ensures faults { F.faults self.old.folder ≤ F.faults self.new.folder }
         ensures kept { self.new.writable ≡ self.old.writable }
     {
-        match is_index(self.alloc, body) {
-            Ok(true) => self.write(name, body),
-            Ok(false) => Ok(Reply::bare(self.alloc, 400)),
-            Err(fault) => Err(fault),
+        if is_index(body) {
+            self.write(name, body)
+        } else {
+            Ok(Reply::bare(self.alloc, 400))
         }
     }
 

@@ -1,5 +1,5 @@
 -- The cache and the stores of a server, when they are given back.
-use Rattle.std.proofs.Common.{◌≡◌, ◌∙◌, ℕ, ◌≤◌, Bool, List, [], ◌∷◌, All, length, map, Option, Some, None, IfSome, IsTrue, Result, refl, sym, ap, subst, arith, slice_index_or}
+use Rattle.std.proofs.Common.{◌≡◌, ◌∙◌, ℕ, ◌≤◌, Bool, List, [], ◌∷◌, All, length, map, Some, IfSome, IsTrue, Result, sym, ap, subst, arith, slice_index_or}
 use Rattle.std.specs.List.{AllZip}
 use Rattle.std.specs.Map.{count_at}
 use Rattle.std.specs.Option.{option_map}
@@ -8,6 +8,7 @@ use Rattle.chunk_proxy.specs.Leaving.{AsksForChunks, IsChunkGet}
 use Rattle.chunk_store.specs.declared.id.DigestKind.{DigestKind}
 use Rattle.chunk_store.specs.declared.store.Store.{Ghosts as StoreWords}
 use Rattle.command_groups.proofs.Asked.{groups_asked}
+use Rattle.command_groups.proofs.Folders.{put_twice, was_put}
 use Rattle.command_groups.proofs.LentChains.{chains_consult}
 use Rattle.command_groups.proofs.Stand.{fresh_tries, groups_stand_still, groups_try_still}
 use Rattle.command_groups.proofs.Words.{group_words}
@@ -17,7 +18,6 @@ use Rattle.command_groups.specs.Opened.{AreUnused, IsFresh}
 use Rattle.command_outcome.specs.declared.outcome.Outcome.{Outcome}
 use Rattle.command_steps.proofs.Asking.{none_more}
 use Rattle.command_steps.proofs.Cached.{given_adds}
-use Rattle.command_steps.proofs.Taken.{at_name_twice}
 use Rattle.command_steps.specs.AnyStores.{IsKnown, source_faults}
 use Rattle.command_steps.specs.Cache.{CacheGiven, with_cache}
 use Rattle.command_steps.specs.Sources.{ConsultsStores, Storage, storage}
@@ -25,7 +25,6 @@ use Rattle.command_steps.specs.Turns.{GivenInTurn}
 use Rattle.command_steps.specs.declared.any_store.AnyStore.{AnyStore}
 use Rattle.command_words.specs.declared.command.Location.{Location}
 use Rattle.command_worlds.specs.Worlds.{Adds}
-use Rattle.dsy_base.proofs.Counts.{at_same}
 use Rattle.dsy_base.specs.Counts.{raised}
 use Rattle.dsy_base.specs.Disk.{Disk}
 use Rattle.dsy_base.specs.Links.{DialState}
@@ -34,19 +33,10 @@ use Rattle.dsy_base.specs.declared.look.Look.{Ghosts as LookWords}
 use Rattle.locked_proxy.specs.Chains.{chain_places}
 use Rattle.locked_shelf.specs.Keepings.{KeepsOpening}
 use Rattle.proxy_command.specs.ProxyServing.{GroupsGet, ProxyServed, ServesProxyTo}
-use Rattle.proxy_command.specs.Reaching.{IsReached, chain_chunks}
+use Rattle.proxy_command.specs.Reaching.{HasReached, chain_chunks}
 use Rattle.server_commands.specs.Serving.{Heard}
 use Rattle.store_chain.specs.Chains.{Chained}
 use Rattle.store_group.specs.Groups.{Grouped}
-
--- a name that is put twice
-put_twice : (o : Option (Map (Map (List ℕ)))) (q : List ℕ) (x y : Option (Map (List ℕ))) → option_map (λ (m : Map (Map (List ℕ))). at_name m q y) o ≡ option_map (λ (m : Map (Map (List ℕ))). at_name m q y) (option_map (λ (m : Map (Map (List ℕ))). at_name m q x) o)
-put_twice None q x y = refl
-put_twice (Some m) q x y = ap Some (sym (at_name_twice m q x y))
-
-was_put : (o : Option (Map (Map (List ℕ)))) (q : List ℕ) (x : Option (Map (List ℕ))) → IfSome (option_map (λ (m : Map (Map (List ℕ))). at_name m q x) o) (λ m. m q ≡ x)
-was_put None q x = tt
-was_put (Some m) q x = at_same m q x
 
 module _ {L D K : Type 0} (look : LookWords L) (state : D → DialState) where
   abbrev Words : StoreWords (Grouped (AnyStore L D K))
@@ -91,7 +81,7 @@ module _ {L D K : Type 0} (look : LookWords L) (state : D → DialState) where
   -- ---- all of it
 
   module _ (groups : List (List Location)) (again : ℕ) (cache : List ℕ) (kind : DigestKind) (most : ℕ) (s t : Shelf) (d m e : Disk) (k j : DialState) (before after : List (Chained (Grouped (AnyStore L D K))))
-      (reached : IsReached look state Words groups again cache kind most d s before) (named : t.place ≡ s.place) (lie : All (Lies before) after) (gives : CacheGiven (Some t) d m) (turn : GivenInTurn (IsChainGiven look state) after (storage m k) (storage e j)) where
+      (reached : HasReached look state Words groups again cache kind most d s before) (named : t.place ≡ s.place) (lie : All (Lies before) after) (gives : CacheGiven (Some t) d m) (turn : GivenInTurn (IsChainGiven look state) after (storage m k) (storage e j)) where
     abbrev w : Disk
     w = with_cache (Some s) d
 

@@ -2,19 +2,15 @@
 use Rattle.std.proofs.Common.{◌≡◌, ◌∙◌, ◌++◌, ℕ, suc, ◌<◌, ◌≤◌, Bool, List, [], ◌∷◌, All, length, map, is_some, Option, Some, None, IfSome, IsSome, IsTrue, refl, sym, ap, subst, arith, slice_index_or}
 use Rattle.std.specs.Option.{option_map}
 use Rattle.cache_store.specs.Shelves.{Shelf}
-use Rattle.chunk_store.specs.Folders.{chunks}
 use Rattle.chunk_store.specs.declared.id.DigestKind.{DigestKind}
 use Rattle.chunk_store.specs.declared.store.Store.{Ghosts as StoreWords}
-use Rattle.command_groups.proofs.Alike.{hold_alike}
+use Rattle.command_groups.proofs.Alike.{groups_known, hold_alike}
 use Rattle.command_groups.proofs.LentChains.{chains_later}
-use Rattle.command_groups.proofs.Stand.{groups_tell}
 use Rattle.command_groups.proofs.Words.{group_words}
 use Rattle.command_groups.specs.Chains.{IsChainOpened}
-use Rattle.command_groups.specs.Groups.{group_files}
-use Rattle.command_groups.specs.Opened.{files_in, locations_in, told_files}
-use Rattle.command_steps.specs.AnyStores.{chunks_in, code_of, location_in, place_in, source_files}
+use Rattle.command_groups.specs.Opened.{locations_in}
+use Rattle.command_steps.specs.AnyStores.{code_of, location_in, place_in}
 use Rattle.command_steps.specs.Cache.{with_cache}
-use Rattle.command_steps.specs.Sources.{location_files}
 use Rattle.command_steps.specs.declared.any_store.AnyStore.{AnyStore}
 use Rattle.command_words.specs.declared.command.Location.{Location}
 use Rattle.command_worlds.specs.Worlds.{Reads}
@@ -24,10 +20,10 @@ use Rattle.dsy_base.specs.Maps.{Map}
 use Rattle.dsy_base.specs.declared.look.Look.{Ghosts as LookWords}
 use Rattle.locked_proxy.specs.Chains.{maps_all_told}
 use Rattle.proxy_command.specs.ProxyServing.{group_chunks}
-use Rattle.proxy_command.specs.Reaching.{AreLent, AreWorkers, IsReached, chain_chunks}
+use Rattle.proxy_command.specs.Reaching.{AreLent, AreWorkers, HasReached, chain_chunks}
 use Rattle.store_chain.proofs.Pairs.{cons_head, cons_tail}
 use Rattle.store_chain.specs.Chains.{Chained}
-use Rattle.store_group.specs.Groups.{Grouped, group_place, of_one, places_of}
+use Rattle.store_group.specs.Groups.{Grouped, group_place, places_of}
 
 -- ---- where groups lie
 
@@ -72,33 +68,14 @@ some_held : (o : Option (List (Map (List ℕ)))) (xs ys : List (Option (Map (Lis
 some_held None xs ys same told = tt
 some_held (Some ms) xs ys same told = same ∙ told
 
-map_both : {A B C : Type 0} (g : B → C) (f : A → B) (xs : List A) → map g (map f xs) ≡ map (λ x. g (f x)) xs
-map_both g f [] = refl
-map_both g f (x ∷ xs) = ap (λ l. g (f x) ∷ l) (map_both g f xs)
-
 module _ {L D K : Type 0} (look : LookWords L) (state : D → DialState) where
   abbrev Words : StoreWords (Grouped (AnyStore L D K))
   Words = group_words look state
 
-  one_holds : (xs : List (AnyStore L D K)) → of_one (chunks_in look.files) xs ≡ option_map chunks (of_one (source_files look.files) xs)
-  one_holds [] = refl
-  one_holds (x ∷ []) = refl
-  one_holds (x ∷ y ∷ xs) = refl
-
-  all_hold : (xs : List (Grouped (AnyStore L D K))) → map Words.holds xs ≡ map (option_map chunks) (map (told_files look.files) xs)
-  all_hold [] = refl
-  all_hold (g ∷ xs) = λ i. one_holds g.stores i ∷ all_hold xs i
-
-  known : (folders : Option (Map (Map (List ℕ)))) (xs : List (Grouped (AnyStore L D K))) (groups : List (List Location)) → IfSome folders (λ m. map (files_in look.files) xs ≡ map (map (location_files m)) groups)
-      → IfSome folders (λ m. map Words.holds xs ≡ group_chunks m groups)
-  known None xs groups found = tt
-  known (Some m) xs groups found =
-      all_hold xs ∙ ap (map (option_map chunks)) (groups_tell look.files (Some m) xs groups found) ∙ map_both (option_map chunks) (group_files m) groups
-
   module _ (d e : Disk) (groups : List (List Location)) (again : ℕ) where
     chains_known : (chains : List (Chained (Grouped (AnyStore L D K)))) → 1 ≤ length chains → All (IsChainOpened look state d e groups again) chains → IfSome d.folders (λ m. chain_chunks Words.holds chains ≡ group_chunks m groups)
     chains_known [] some opened = absurd (omega (arith, some))
-    chains_known (c ∷ more) some opened = known d.folders c.stores groups (opened 0 c (omega arith)).found
+    chains_known (c ∷ more) some opened = groups_known look.files look.place d.folders c.stores groups (opened 0 c (omega arith)).found
 
     module _ (tells : Bool) (told : (l : L) → is_some (look.files l) ≡ look.tells) (seen : IsTrue look.tells → IsTrue tells) (tells_are : is_some d.folders ≡ tells) where
       -- chains that were opened for one kind of digest
@@ -117,7 +94,7 @@ module _ {L D K : Type 0} (look : LookWords L) (state : D → DialState) where
 
       -- and then the folder of the cache was taken
       pub is_reached : (m : Disk) (s : Shelf) (cache : List ℕ) (kind : DigestKind) (most : ℕ) (chains : List (Chained (Grouped (AnyStore L D K)))) → Reads d e → AreWorkers look state d e groups again kind most chains
-          → Reads e (with_cache (Some s) m) → s.place ≡ cache → IsSome (m.folder_counts cache) → s.kind ≡ kind → IsReached look state Words groups again cache kind most m s chains
+          → Reads e (with_cache (Some s) m) → s.place ≡ cache → IsSome (m.folder_counts cache) → s.kind ≡ kind → HasReached look state Words groups again cache kind most m s chains
       is_reached m s cache kind most chains before workers reads at_name has digest = record {
         named = at_name;
         known = has;

@@ -34,6 +34,9 @@ returns-in-Demo g c = record { unheard = λ _. refl; ends = rw c.in-Demo.is (c.d
 pub returns-in-ChunkServer : goal.returns-in-ChunkServer
 returns-in-ChunkServer g c = record { unheard = λ h. none_such (rw c.in-ChunkServer.is at h); ends = rw c.in-ChunkServer.is (c.chunk_server.ensures.ends _ _) }
 
+pub returns-in-Proxy : goal.returns-in-Proxy
+returns-in-Proxy g c = record { unheard = λ h. none_such (rw c.in-Proxy.is at h); ends = rw c.in-Proxy.is (c.proxy_server.ensures.ends _) }
+
 -- the words name groups of stores
 
 pub extract-requires-clause-stores : goal.extract-requires-clause-stores
@@ -47,3 +50,6 @@ print_info-requires-clause-groups g c = let fits = subst Fits c.in-Info.is c.req
 
 pub fill_cache-requires-clause-groups : goal.fill_cache-requires-clause-groups
 fill_cache-requires-clause-groups g c = λ lives bounds. let fits = subst Fits c.in-Cache.is c.requires in are_groups _ _ fits.0 fits.1
+
+pub proxy_server-requires-clause-groups : goal.proxy_server-requires-clause-groups
+proxy_server-requires-clause-groups g c = λ lives bounds. let fits = subst Fits c.in-Proxy.is c.requires in are_groups _ _ fits.0 fits.1

@@ -8,7 +8,7 @@ returns-in_default c =
     record { first = both.0; exactly = both.1 }
 
 pub returns-clause-first : goal.returns-clause-first
-returns-clause-first c = (ends_whole _ (read_of c.self.inside) c.self.view_is c.requires c.of_valid.result c.in-Nothing.is c.of_valid.ensures).0
+returns-clause-first c = (ends_whole _ (read_of c.self.inside) c.self.view_is c.requires c.of_fields.result c.in-Nothing.is c.of_fields.ensures).0
 
 pub returns-clause-exactly : goal.returns-clause-exactly
-returns-clause-exactly c = (ends_whole _ (read_of c.self.inside) c.self.view_is c.requires c.of_valid.result c.in-Nothing.is c.of_valid.ensures).1
+returns-clause-exactly c = (ends_whole _ (read_of c.self.inside) c.self.view_is c.requires c.of_fields.result c.in-Nothing.is c.of_fields.ensures).1

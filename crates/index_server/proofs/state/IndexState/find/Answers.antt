@@ -1,4 +1,3 @@
-use Rattle.std.proofs.Common.{rules}
 use Rattle.index_server.proofs.Answered.{ok_more}
 use Rattle.index_server.proofs.state.IndexState.find.Goals as goal
 
