@@ -205,14 +205,14 @@ def nobody_listens(cases, count):
 
 # Servers that fail, and then don't
 
-def answering(image, status):
+def answering(image, status, by_path=False):
     """A server of the store `all` that answers request `number` with `status(number)`, or with the chunk where that is
-    200."""
-    numbers, lock = itertools.count(), threading.Lock()
+    200. The requests for each path may have numbers of their own."""
+    numbers, lock = collections.defaultdict(itertools.count), threading.Lock()
 
     def answer(peer, method, path, _body):
         with lock:
-            told = status(next(numbers))
+            told = status(next(numbers[path if by_path else None]))
         held = servers.file_at(image.path('all'), '', path)
         if told != 200:
             peer.sendall(reply(told))
@@ -247,14 +247,12 @@ def each_second_fails(cases, count):
             left = list(range(PIECES))[1::2]
             expect_equal(server.asked, image.asks() + [image.asks()[entry] for entry in left], 'what was asked')
             expect_bytes(image, image_of(image, lambda entry: entry not in left[1::2]))
-    with cases.case(f'cache from a server that fails each second reply, -n {count}') as folder:
+    with cases.case(f'cache from a server that fails the first reply for each chunk, -n {count}') as folder:
         image = Image(folder, PIECES)
-        with answering(image, status) as server:
-            expect_ended(fill(image, count, 16, server.url()))
+        with answering(image, lambda number: 200 if number else 500, by_path=True) as server:
+            expect_ended(fill(image, count, 1, server.url()))
         image.expect_store('near')
-        asked = collections.Counter(server.asked)
-        expect(max(asked.values()) <= 17, f'a chunk was asked for {max(asked.values())} times')
-        expect_equal(len(server.asked) // 2, PIECES - 1, 'how often it failed')
+        expect_equal(sorted(server.asked), sorted(times(image.asks(), 2)), 'what it was asked')
     with cases.case(f'two servers in a group fail each second reply, -n {count}') as folder:
         image = Image(folder, PIECES)
         with answering(image, status) as first, answering(image, status) as second:
