@@ -33,7 +33,7 @@ use Rattle.dsy_base.specs.declared.look.Look.{Ghosts as LookWords}
 use Rattle.locked_proxy.specs.Chains.{chain_places}
 use Rattle.locked_shelf.specs.Keepings.{KeepsOpening}
 use Rattle.proxy_command.specs.ProxyServing.{GroupsGet, ProxyServed, ServesProxyTo}
-use Rattle.proxy_command.specs.Reaching.{IsReached, chain_chunks}
+use Rattle.proxy_command.specs.Reaching.{HasReached, chain_chunks}
 use Rattle.server_commands.specs.Serving.{Heard}
 use Rattle.store_chain.specs.Chains.{Chained}
 use Rattle.store_group.specs.Groups.{Grouped}
@@ -81,7 +81,7 @@ module _ {L D K : Type 0} (look : LookWords L) (state : D → DialState) where
   -- ---- all of it
 
   module _ (groups : List (List Location)) (again : ℕ) (cache : List ℕ) (kind : DigestKind) (most : ℕ) (s t : Shelf) (d m e : Disk) (k j : DialState) (before after : List (Chained (Grouped (AnyStore L D K))))
-      (reached : IsReached look state Words groups again cache kind most d s before) (named : t.place ≡ s.place) (lie : All (Lies before) after) (gives : CacheGiven (Some t) d m) (turn : GivenInTurn (IsChainGiven look state) after (storage m k) (storage e j)) where
+      (reached : HasReached look state Words groups again cache kind most d s before) (named : t.place ≡ s.place) (lie : All (Lies before) after) (gives : CacheGiven (Some t) d m) (turn : GivenInTurn (IsChainGiven look state) after (storage m k) (storage e j)) where
     abbrev w : Disk
     w = with_cache (Some s) d
 

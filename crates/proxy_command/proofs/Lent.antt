@@ -20,7 +20,7 @@ use Rattle.dsy_base.specs.Maps.{Map}
 use Rattle.dsy_base.specs.declared.look.Look.{Ghosts as LookWords}
 use Rattle.locked_proxy.specs.Chains.{maps_all_told}
 use Rattle.proxy_command.specs.ProxyServing.{group_chunks}
-use Rattle.proxy_command.specs.Reaching.{AreLent, AreWorkers, IsReached, chain_chunks}
+use Rattle.proxy_command.specs.Reaching.{AreLent, AreWorkers, HasReached, chain_chunks}
 use Rattle.store_chain.proofs.Pairs.{cons_head, cons_tail}
 use Rattle.store_chain.specs.Chains.{Chained}
 use Rattle.store_group.specs.Groups.{Grouped, group_place, places_of}
@@ -94,7 +94,7 @@ module _ {L D K : Type 0} (look : LookWords L) (state : D → DialState) where
 
       -- and then the folder of the cache was taken
       pub is_reached : (m : Disk) (s : Shelf) (cache : List ℕ) (kind : DigestKind) (most : ℕ) (chains : List (Chained (Grouped (AnyStore L D K)))) → Reads d e → AreWorkers look state d e groups again kind most chains
-          → Reads e (with_cache (Some s) m) → s.place ≡ cache → IsSome (m.folder_counts cache) → s.kind ≡ kind → IsReached look state Words groups again cache kind most m s chains
+          → Reads e (with_cache (Some s) m) → s.place ≡ cache → IsSome (m.folder_counts cache) → s.kind ≡ kind → HasReached look state Words groups again cache kind most m s chains
       is_reached m s cache kind most chains before workers reads at_name has digest = record {
         named = at_name;
         known = has;

@@ -1,6 +1,6 @@
--- `chunk-server -s STORE.. -e RETRIES -c CACHE -l HOST:PORT -n N`: chunks are served from the folder CACHE and, where it
--- doesn't give them, from groups of stores, whose chunks are added to it. Where N is 1 connections are served one after
--- the other, else each in a thread of its own.
+-- `chunk-server -s STORE.. -e RETRIES -c CACHE -l HOST:PORT -n N`: chunks are served from the folder CACHE and, where
+-- it doesn't give them, from groups of stores, whose chunks are added to it. Where N is 1 connections are served one
+-- after the other, else each in a thread of its own.
 use Rattle.std.specs.Prelude.{◌≡◌, ◌==◌, ◌≤◌, ℕ, Bool, true, false, IsTrue, is_some, List, [], map}
 use Rattle.std.specs.Prelude.{Option, Some, None, IfSome, Result, Ok, Err}
 use Rattle.std.specs.Map.{count_at}

@@ -42,9 +42,9 @@ pub record AreWorkers {L D K : Type 0} (look : LookWords L) (state : D → DialS
   pub some : 1 ≤ length chains
   pub few : length chains ≤ max 1 most
 
--- a cache's folder was taken, and chains were opened: nothing was asked and nothing has failed yet, and all of it can be
--- given back
-pub record IsReached {L D K : Type 0} (look : LookWords L) (state : D → DialState)
+-- a cache's folder was taken, and chains were opened: nothing was asked and nothing has failed yet, and all of it can
+-- be given back
+pub record HasReached {L D K : Type 0} (look : LookWords L) (state : D → DialState)
     (store : StoreWords (Grouped (AnyStore L D K))) (groups : List (List Location)) (retries : ℕ) (cache : List ℕ)
     (kind : DigestKind) (most : ℕ) (d : Disk) (s : Shelf) (chains : List (Chained (Grouped (AnyStore L D K))))
     : Type 0 where

@@ -12,7 +12,7 @@ ghost use Rattle.command_steps.specs.Turns.{GivenInTurn};
 ghost use Rattle.command_worlds.specs.Worlds.{world};
 ghost use Rattle.dsy_base.specs.Disk.{Disk, Output};
 ghost use Rattle.proxy_command.specs.ProxyServing.{ProxyServed, ProxyServerEnds};
-ghost use Rattle.proxy_command.specs.Reaching.{IsReached};
+ghost use Rattle.proxy_command.specs.Reaching.{HasReached};
 ghost use Rattle.server_commands.specs.Serving.{heard};
 
 use crate::reach::{Reached, reach};
@@ -85,7 +85,7 @@ where
     F::Folder: Send,
     D::Link: Send,
     L::Link: Send,
-    requires reached { IsReached F.Look.Look D.state ⟦<Group<AnyStore<F::Look, D>> as Store>⟧
+    requires reached { HasReached F.Look.Look D.state ⟦<Group<AnyStore<F::Look, D>> as Store>⟧
         words.now.stores words.now.retries words.now.cache words.now.kind words.now.workers (F.disk files.old)
         (shelf_of F.Folder.files F.Folder.place F.Folder.faults reached.shelf) reached.chains.items }
     ensures served { ProxyServed (heard F.Folder.never_fails (L.state listen.old) (L.state listen.new))
@@ -99,8 +99,8 @@ where
 }
 
 /// Serves the chunks of CACHE and of the stores over the connections that come at an address, until no more come. The
-/// stores are asked in order for a chunk that CACHE doesn't give, and it is added to CACHE. Each worker has stores of its
-/// own; where they can't be opened again there are fewer. Nobody is heard where a store or CACHE can't be reached.
+/// stores are asked in order for a chunk that CACHE doesn't give, and it is added to CACHE. Each worker has stores of
+/// its own; where they can't be opened again there are fewer. Nobody is heard where a store or CACHE can't be reached.
 pub fn proxy_server<R: Threads + Wait + Sync, F: ImageFiles, D: Dial + Send, L: Listen>(
     rt: &R,
     alloc: Global,

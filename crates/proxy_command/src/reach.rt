@@ -6,7 +6,7 @@ ghost use Rattle.command_groups.specs.Groups.{AreGroups, stores_of};
 ghost use Rattle.command_steps.specs.Cache.{CacheOpened, with_cache};
 ghost use Rattle.command_steps.specs.Sources.{SourcesOpened};
 ghost use Rattle.dsy_base.specs.Disk.{Disk};
-ghost use Rattle.proxy_command.specs.Reaching.{AreWorkers, IsReached};
+ghost use Rattle.proxy_command.specs.Reaching.{AreWorkers, HasReached};
 
 use crate::proxy::ProxyWords;
 use cache_store::shelf::CacheShelf;
@@ -75,7 +75,7 @@ pub(crate) fn reach<F: ImageFiles, D: Dial>(
         × SourcesOpened (stores_of words.now.stores) (F.disk files.old) (Ok tt) m
         × CacheOpened (stores_of words.now.stores) (Some words.now.cache) m (Ok tt) (with_cache
         (Some (shelf_of F.Folder.files F.Folder.place F.Folder.faults r.shelf)) (F.disk files.new))) }
-    ensures there { IfOk result (λ r. IsReached F.Look.Look D.state ⟦<Group<AnyStore<F::Look, D>> as Store>⟧
+    ensures there { IfOk result (λ r. HasReached F.Look.Look D.state ⟦<Group<AnyStore<F::Look, D>> as Store>⟧
         words.now.stores words.now.retries words.now.cache words.now.kind words.now.workers (F.disk files.new)
         (shelf_of F.Folder.files F.Folder.place F.Folder.faults r.shelf) r.chains.items) }
     ensures err { IfErr result (λ o.

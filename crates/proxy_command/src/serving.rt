@@ -96,8 +96,8 @@ where
     (Reached { shelf, chains }, all_ended(served))
 }
 
-/// Serves what was reached, by as many workers as the words say: by one in turn, else each connection in a thread of its
-/// own.
+/// Serves what was reached, by as many workers as the words say: by one in turn, else each connection in a thread of
+/// its own.
 pub(crate) fn serve_by<W: Folder + Send, S: Store + Send, L: Listen, R: Threads + Wait + Sync>(
     rt: &R,
     alloc: Global,
