@@ -1,5 +1,5 @@
 -- Where the slice of an entry stands among pieces whose entries fall.
-use Rattle.std.proofs.Common.{◌≡◌, ℕ, ◌-◌, ◌<◌, ◌≤◌, List, length, slice_index_or, All, inl, inr, sym, subst, arith}
+use Rattle.std.proofs.Common.{◌≡◌, ℕ, zero, suc, ◌-◌, ◌<◌, ◌≤◌, List, length, slice_index_or, All, inl, inr, sym, subst, arith}
 use Rattle.std.proofs.lemmas.Bool.{cases_lt}
 use Rattle.caibx_codec.specs.Listing.{Listing}
 use Rattle.image_slices.specs.Ahead.{EntriesFall, HasSlice}
@@ -17,6 +17,13 @@ above_before ps i j k d falls le inside above = elim (cases_lt j k) [
 pub above_last : (ps : List Piece) (i : ℕ) (p : Piece) → EntriesFall ps → ((d : Piece) → p ≡ slice_index_or ps (length ps - 1) d) → i < p.entry → All (λ q. i < q.entry) ps
 above_last ps i p falls last above k d inside =
     above_before ps i k (length ps - 1) d falls (omega (arith, inside)) (omega (arith, inside)) (subst (λ (q : Piece). i < q.entry) (last d) above)
+
+-- what is above the first one is above all
+pub below_first : (ps : List Piece) (i : ℕ) (p : Piece) → EntriesFall ps → ((d : Piece) → p ≡ slice_index_or ps 0 d) → p.entry < i → All (λ q. q.entry < i) ps
+below_first ps i p falls first below zero d inside = subst (λ (q : Piece). q.entry < i) (first d) below
+below_first ps i p falls first below (suc k) d inside =
+    let at : (slice_index_or ps 0 d).entry < i = subst (λ (q : Piece). q.entry < i) (first d) below in
+    omega (arith, falls 0 (suc k) d (omega arith) inside, at)
 
 -- if all entries are above entry i, its slice doesn't stand there
 pub absent_above : (l : Listing) (a : Ahead) (i n : ℕ) → ((k : ℕ) (d : Piece) → k < n → i < (slice_index_or a.pieces.items k d).entry) → length a.pieces.items ≤ n → (b : List ℕ) (d : Piece) → HasSlice l a i b → ⊥

@@ -1,9 +1,9 @@
 -- Slices that stand in a room.
-use Rattle.std.proofs.Common.{◌≡◌, ℕ, ◌+◌, ◌-◌, ◌<◌, ◌≤◌, ◌⊎◌, inl, inr, List, [], ◌∷◌, ◌++◌, length, take, drop, slice_index_or, slice_range, All, Option, IfSome, sym, ap, subst, ◌∙◌, arith, length-append, length-take, length-drop}
+use Rattle.std.proofs.Common.{◌≡◌, ℕ, zero, suc, ◌+◌, ◌-◌, ◌<◌, ◌≤◌, ◌⊎◌, inl, inr, List, [], ◌∷◌, ◌++◌, length, take, drop, slice_index_or, slice_range, All, Option, IfSome, sym, ap, subst, ◌∙◌, arith, length-append, length-take, length-drop}
 use Rattle.std.proofs.lemmas.Bool.{cases_lt}
 use Rattle.std.proofs.lemmas.List.{drop-take, get_or_append_left, take-take}
 use Rattle.std.proofs.Math.Seq.{get_or-append_seam}
-use Rattle.std.proofs.lemmas.List.Elements.{All-push}
+use Rattle.std.proofs.lemmas.List.Elements.{All-cons, All-push}
 use Rattle.std.proofs.lemmas.Option.{IfSome_then}
 use Rattle.caibx_codec.specs.Listing.{Listing, end_of, id_of, kind_of, size_of, start_of}
 use Rattle.chunk_store.specs.Digests.{digest_of}
@@ -145,4 +145,58 @@ module _ (l : Listing) (a : Ahead) (room : List ℕ) (same : take a.filled room 
       };
       kept = kept;
       only = only;
+    }
+
+  -- the same of a slice whose piece is put before theirs
+  module _ (b : Ahead) (p : Piece) (room_is : b.room.items ≡ room) (pieces : b.pieces.items ≡ p ∷ a.pieces.items) where
+    first_kept : (k : ℕ) (c : List ℕ) → HasSlice l a k c → HasSlice l b k c
+    first_kept k c has = record {
+      place = suc has.place;
+      inside = omega (arith, has.inside, ap length pieces);
+      entry = λ d. ap (λ (ps : List Piece). (slice_index_or ps (suc has.place) d).entry) pieces ∙ has.entry d;
+      bytes = λ d. has.bytes d ∙ sym (piece_same has.place d has.inside) ∙ ap (λ (ps : List Piece). piece_slice l room (slice_index_or ps (suc has.place) d)) (sym pieces)
+          ∙ ap (λ (r : List ℕ). piece_slice l r (slice_index_or b.pieces.items (suc has.place) d)) (sym room_is);
+    }
+
+    first_only : (k : ℕ) (c : List ℕ) → HasSlice l b k c → HasSlice l a k c ⊎ ((k ≡ p.entry) × (c ≡ piece_slice l room p))
+    first_only k c has = go has.place has.inside has.entry has.bytes where
+      go : (n : ℕ) → n < length b.pieces.items → ((d : Piece) → (slice_index_or b.pieces.items n d).entry ≡ k) → ((d : Piece) → c ≡ piece_slice l b.room.items (slice_index_or b.pieces.items n d))
+          → HasSlice l a k c ⊎ ((k ≡ p.entry) × (c ≡ piece_slice l room p))
+      go zero inside entry bytes = inr (
+        sym (entry p) ∙ ap (λ (ps : List Piece). (slice_index_or ps 0 p).entry) pieces,
+        bytes p ∙ ap (λ (r : List ℕ). piece_slice l r (slice_index_or b.pieces.items 0 p)) room_is ∙ ap (λ (ps : List Piece). piece_slice l room (slice_index_or ps 0 p)) pieces,
+      )
+      go (suc n) inside entry bytes =
+          let less : n < length a.pieces.items = omega (arith, inside, ap length pieces) in
+          inl (record {
+            place = n;
+            inside = less;
+            entry = λ d. ap (λ (ps : List Piece). (slice_index_or ps (suc n) d).entry) (sym pieces) ∙ entry d;
+            bytes = λ d. bytes d ∙ ap (λ (r : List ℕ). piece_slice l r (slice_index_or b.pieces.items (suc n) d)) room_is
+                ∙ ap (λ (ps : List Piece). piece_slice l room (slice_index_or ps (suc n) d)) pieces ∙ piece_same n d less;
+          })
+
+    first_falls : All (λ q. q.entry < p.entry) a.pieces.items → EntriesFall b.pieces.items
+    first_falls below = subst EntriesFall (sym pieces) go where
+      go : EntriesFall (p ∷ a.pieces.items)
+      go zero zero d less inside = absurd (omega (arith, less))
+      go zero (suc k) d less inside = below k d (omega (arith, inside))
+      go (suc j) zero d less inside = absurd (omega (arith, less))
+      go (suc j) (suc k) d less inside = was.falls j k d (omega (arith, less)) (omega (arith, inside))
+
+    pub adds_first_slice : All (λ q. q.entry < p.entry) a.pieces.items → a.filled ≤ b.filled → b.filled ≤ length room → IsPlacedPiece l b.filled p → AddsSlice l p.entry (piece_slice l room p) a b
+    adds_first_slice below up fits here = record {
+      room = record {
+        filled = omega (arith, fits, ap length room_is);
+        pieces = subst (All (IsPlacedPiece l b.filled)) (sym pieces) (All-cons (IsPlacedPiece l b.filled) p a.pieces.items here (placed b.filled up));
+        falls = first_falls below;
+      };
+      added = record {
+        place = 0;
+        inside = omega (arith, ap length pieces);
+        entry = λ d. ap (λ (ps : List Piece). (slice_index_or ps 0 d).entry) pieces;
+        bytes = λ d. ap (λ (ps : List Piece). piece_slice l room (slice_index_or ps 0 d)) (sym pieces) ∙ ap (λ (r : List ℕ). piece_slice l r (slice_index_or b.pieces.items 0 d)) (sym room_is);
+      };
+      kept = first_kept;
+      only = first_only;
     }

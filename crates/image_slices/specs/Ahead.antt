@@ -59,6 +59,12 @@ pub record HasSpace (l : Listing) (i : ℕ) (a : Ahead) : Type 0 where
   pub bytes : a.filled + size_of l i ≤ length a.room.items
   pub place : vec_len a.pieces < vec_capacity a.pieces
 
+-- so it does, and their entries are below it
+pub record HasSpaceAbove (l : Listing) (i : ℕ) (a : Ahead) : Type 0 where
+  pub below : All (λ p. p.entry < i) a.pieces.items
+  pub bytes : a.filled + size_of l i ≤ length a.room.items
+  pub place : vec_len a.pieces < vec_capacity a.pieces
+
 -- the bytes b are put into the room as the slice of entry i, behind all that stood there
 pub record AddsSlice (l : Listing) (i : ℕ) (b : List ℕ) (old new : Ahead) : Type 0 where
   pub room : FitsItsRoom l new

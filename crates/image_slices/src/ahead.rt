@@ -5,8 +5,8 @@ ghost use Rattle.std.specs.Prelude.{IfOk, IfSome, length, None, nat_lt, slice_in
 ghost use Rattle.std.specs.Prelude.{vec_capacity, vec_len};
 ghost use Rattle.caibx_codec.specs.Listing.{Listing, count_of, image_length, size_of};
 ghost use Rattle.chunk_store.specs.Digests.{digest_of};
-ghost use Rattle.image_slices.specs.Ahead.{AddsSlice, EntriesFall, FitsItsRoom, HasBytes, HasSlice, HasSpace, IsAhead};
-ghost use Rattle.image_slices.specs.Ahead.{IsSlice, TellsSlice};
+ghost use Rattle.image_slices.specs.Ahead.{AddsSlice, EntriesFall, FitsItsRoom, HasBytes, HasSlice, HasSpace};
+ghost use Rattle.image_slices.specs.Ahead.{HasSpaceAbove, IsAhead, IsSlice, TellsSlice};
 
 use crate::plan::PIECES;
 use caibx_codec::index::{Index, Listed};
@@ -23,7 +23,8 @@ pub struct Piece {
     pub at: usize,
 }
 
-/// A room of bytes. Slices stand in it one after another, up to `filled`. Their entries fall from piece to piece.
+/// A room of bytes. Slices stand in it one after another, up to `filled`. Entries fall from piece to piece, in whichever
+/// order the slices were put there.
 #[derive(Drop)]
 pub struct Ahead {
     pub room: Vec<u8>,
@@ -110,6 +111,17 @@ impl Ahead {
         }
     }
 
+    // Whether all entries that stand in the room are below entry i.
+    fn rises_to(&self, i: usize) -> bool
+        requires { EntriesFall self.now.pieces.items }
+        ensures { IsTrue result → All (λ p. p.entry < i) self.now.pieces.items }
+    {
+        match self.pieces.first() {
+            Some(piece) => piece.entry < i,
+            None => true,
+        }
+    }
+
     // Whether a slice of `size` bytes fits behind the others, and its piece into the list.
     fn takes(&self, size: usize) -> bool
         requires { self.now.filled ≤ length self.now.room.items }
@@ -129,7 +141,17 @@ impl Ahead {
         self.falls_to(i) && self.takes(index.entry(i).size)
     }
 
-    // The slice of entry i stands behind the others now.
+    /// Whether the slice of entry i can be put behind those that stand in the room: their entries are below it, and it
+    /// fits.
+    pub fn fits_above(&self, index: &Index, i: usize) -> bool
+        requires listed { i < count_of index.now }
+        requires right { FitsItsRoom index.now self.now }
+        ensures { IsTrue result → HasSpaceAbove index.now i self.now }
+    {
+        self.rises_to(i) && self.takes(index.entry(i).size)
+    }
+
+    // The slice of entry i, which is below the others, stands behind them now.
     fn add_piece(&mut self, i: usize, size: usize)
         requires fits { self.old.filled + size ≤ length self.old.room.items }
         requires place { vec_len self.old.pieces < vec_capacity self.old.pieces }
@@ -145,17 +167,33 @@ impl Ahead {
         self.filled += size;
     }
 
+    // The slice of entry i, which is above the others, stands behind them now. Its piece stands before theirs.
+    fn add_first_piece(&mut self, i: usize, size: usize)
+        requires fits { self.old.filled + size ≤ length self.old.room.items }
+        requires place { vec_len self.old.pieces < vec_capacity self.old.pieces }
+        ensures pieces { self.new.pieces.items
+            ≡ record { entry = i; at = self.old.filled } ∷ self.old.pieces.items }
+        ensures filled { self.new.filled ≡ self.old.filled + size }
+        ensures kept { self.new.room.items ≡ self.old.room.items }
+    {
+        let at = self.filled;
+        let Ok(()) = self.pieces.insert(0, Piece { entry: i, at }) else {
+            unreachable!();
+        };
+        self.filled = at + size;
+    }
+
     /// Puts the slice of entry i behind those that stand in the room.
     pub fn push(&mut self, index: &Index, i: usize, bytes: &[u8])
         requires listed { i < count_of index.now }
         requires right { FitsItsRoom index.now self.old }
-        requires fits { HasSpace index.now i self.old }
+        requires fits { HasSpaceAbove index.now i self.old }
         requires size { length bytes.now ≡ size_of index.now i }
         ensures { AddsSlice index.now i bytes.now self.old self.new }
     {
         let at = self.filled;
         copy_to(&mut self.room, at, bytes);
-        self.add_piece(i, bytes.len());
+        self.add_first_piece(i, bytes.len());
     }
 
     /// Reads the slice of entry i behind those that stand in the room, and keeps it if it has its digest. Answers

@@ -4,7 +4,7 @@ ghost use Rattle.std.specs.Prelude.{◌≡◌, ◌<◌, ◌≤◌, All, IfOk, If
 ghost use Rattle.std.specs.List.{AllZip};
 ghost use Rattle.read_ahead.specs.ReadsOn.{ReadsOn};
 
-use crate::claims::Claims;
+use crate::claims::{Claims, Sharing};
 use crate::consumer::Consumer;
 use crate::reader::Reader;
 use std::alloc::{AllocError, Global};
@@ -28,7 +28,7 @@ fn take_to<A, C: Consumer<A>>(to: usize, consumer: &mut C, ready: &[A]) -> Resul
     Ok(())
 }
 
-// Takes the items before those of the round, and those of the round that no reader has claimed.
+// Takes the items before those of the round, and those of the round that are the consumer's.
 fn take_round<A, C: Consumer<A>>(
     claims: &Claims,
     consumer: &mut C,
@@ -49,9 +49,9 @@ fn take_round<A, C: Consumer<A>>(
     Ok(())
 }
 
-// Empties the room, and reads item `first` and each that it claims into it, until there is no more to be read.
+// Empties the room, and reads item `first` and each that it goes to into it, until there is no more to be read.
 fn read_round<A, V: Reader<A>>(reader: &mut V, room: &mut A, first: Option<usize>, claims: &Claims)
-    requires listed { IfSome first (λ i. i < V.count reader.old) }
+    requires listed { IfSome first (λ i. (claims.now.from ≤ i) × (i < claims.now.to)) }
     requires inside { claims.now.to ≤ V.count reader.old }
     requires able { V.can_read reader.old }
     ensures right { V.is_right reader.new room.new }
@@ -66,7 +66,7 @@ fn read_round<A, V: Reader<A>>(reader: &mut V, room: &mut A, first: Option<usize
         if !reader.read_item(i, room) {
             return;
         }
-        next = claims.claim();
+        next = claims.item_after(i);
     }
 }
 
@@ -79,7 +79,7 @@ struct Round<'a, R, A> {
 }
 
 // Takes the items before those of the round and some of these, while each reader reads others in a thread. This thread
-// begins all of them, so that none waits for another one to begin it, and claims the first item of each.
+// begins all of them, so that none waits for another one to begin it, and says where each begins.
 #[cycle(round)]
 fn run_round<R: Threads + Sync, A: Send + Sync, C: Consumer<A>, V: Reader<A> + Send>(
     round: &Round<'_, R, A>,
@@ -107,9 +107,9 @@ fn run_round<R: Threads + Sync, A: Send + Sync, C: Consumer<A>, V: Reader<A> + S
     let Some((room, rest)) = rooms.split_first_mut() else {
         unreachable!();
     };
-    let first = round.claims.claim();
+    let first = round.claims.first_item();
     let mut read = ||
-        requires first { IfSome first (λ i. i < V.count reader.now) }
+        requires first { IfSome first (λ i. (round.now.claims.now.from ≤ i) × (i < round.now.claims.now.to)) }
         requires end { round.now.claims.now.to ≤ V.count reader.now }
         requires able { V.can_read reader.now }
         ensures right { V.is_right reader.exit.now room.exit.now }
@@ -135,15 +135,22 @@ fn run_round<R: Threads + Sync, A: Send + Sync, C: Consumer<A>, V: Reader<A> + S
     taken
 }
 
-// Takes all items.
-fn take_by_rounds<R: Threads + Sync, A: Drop + Send + Sync, C: Consumer<A>, V: Reader<A> + Send>(
+/// Lets the consumer take all items, while each reader reads items ahead in a thread of its own. Each reader has two
+/// rooms, and the consumer takes from one while the reader fills the other.
+pub fn take_by_rounds<
+    R: Threads + Sync,
+    A: Drop + Send + Sync,
+    C: Consumer<A>,
+    V: Reader<A> + Send,
+>(
     rt: &R,
+    sharing: Sharing,
     consumer: &mut C,
     readers: &mut [V],
     mut rooms: Vec<A>,
     mut ready: Vec<A>,
 ) -> Result<(), C::Fault>
-    requires rooms { (length rooms.items ≡ length readers.old) × (length ready.items ≡ length readers.old) }
+    requires size { (length rooms.items ≡ length readers.old) × (length ready.items ≡ length readers.old) }
     requires ready { All (C.accepts consumer.old) ready.items }
     requires count { All (λ r. V.count r ≡ C.count consumer.old) readers.old }
     requires able { All V.can_read readers.old }
@@ -158,7 +165,7 @@ fn take_by_rounds<R: Threads + Sync, A: Drop + Send + Sync, C: Consumer<A>, V: R
     let mut at = 0;
     while at < consumer.count() {
         let end = consumer.round_end(at, readers.len());
-        let claims = Claims::new(at, end);
+        let claims = Claims::new(at, end, sharing);
         let round = Round {
             rt,
             claims: &claims,
@@ -187,8 +194,8 @@ fn new_rooms<A: Drop, C: Consumer<A>>(
     Ok(rooms)
 }
 
-// Two rooms for each reader, in which nothing stands. Refused also where too little memory would be left beside them.
-fn room_pairs<A: Drop, C: Consumer<A>>(
+/// Two rooms for each reader, in which nothing stands. Refused also where too little memory would be left beside them.
+pub fn room_pairs<A: Drop, C: Consumer<A>>(
     alloc: Global,
     consumer: &C,
     count: usize,
@@ -213,9 +220,8 @@ pub fn take_alone<A, C: Consumer<A>>(consumer: &mut C) -> Result<(), C::Fault>
     take_to(consumer.count(), consumer, &[])
 }
 
-/// Lets the consumer take all items, while each reader reads items ahead in a thread of its own. Each reader has two
-/// rooms, and the consumer takes from one while the reader fills the other. Where there is no memory for the rooms, or
-/// for what is to be left free beside them, the consumer is alone.
+/// Lets the consumer take all items, while readers that claim them read ahead. Where there is no memory for the rooms,
+/// or for what is to be left free beside them, the consumer is alone.
 pub fn take_all<R: Threads + Sync, A: Drop + Send + Sync, C: Consumer<A>, V: Reader<A> + Send>(
     rt: &R,
     alloc: Global,
@@ -236,7 +242,9 @@ pub fn take_all<R: Threads + Sync, A: Drop + Send + Sync, C: Consumer<A>, V: Rea
         return take_alone(consumer);
     }
     match room_pairs(alloc, consumer, readers.len()) {
-        Ok((rooms, ready)) => take_by_rounds(rt, consumer, readers, rooms, ready),
+        Ok((rooms, ready)) => {
+            take_by_rounds(rt, Sharing::Claimed, consumer, readers, rooms, ready)
+        }
         Err(_) => take_alone(consumer),
     }
 }

@@ -1,6 +1,5 @@
 use Rattle.std.proofs.Common.{◌≡◌, All, arith, rules, subst}
 use Rattle.std.proofs.lemmas.List.Elements.{All-head, All-rest}
-use Rattle.std.proofs.lemmas.Option.{IfSome_then}
 use Rattle.read_ahead.proofs.rounds.+round.Goals as goal
 
 pub join_mut-taken-requires-after_bounds : goal.join_mut-taken-requires-after_bounds
@@ -10,7 +9,7 @@ join_mut-taken-requires-after_bounds g t c κs within =
     let here : g.V.Reader.count c.in-Some.reader.now ≡ g.C.Consumer.count c.args.consumer.now = All-head counts _ _ (subst (All counts) is c.requires.count) in
     let able = All-head g.V.Reader.can_read _ _ (subst (All g.V.Reader.can_read) is c.requires.able) in (
       (
-        IfSome_then c.claim-first.result c.claim-first.ensures (λ i is. omega (arith, is.1, c.requires.end, here)),
+        c.first_item-first.ensures,
         (omega (arith, c.requires.end, here), able),
       ),
       (

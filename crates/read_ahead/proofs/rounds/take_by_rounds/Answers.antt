@@ -10,8 +10,8 @@ loop-at-init g c = record {
   count = refl;
   accepted = λ a is. is;
   inside = omega arith;
-  rooms = c.requires.rooms.0;
-  spare = c.requires.rooms.1;
+  rooms = c.requires.size.0;
+  spare = c.requires.size.1;
   ready = c.requires.ready;
   readers = all_none g.V.Reader c.args.readers.now c.requires.able;
 }
