@@ -181,7 +181,7 @@ def cached(cases):
                 expect_ended(image.run('cache', '-n', '1', '-s', server.url(), '-c', 'near', 'new.caibx'))
                 image.expect_store('near')
                 expect_equal(server.asked, image.asks(), 'what was asked')
-    for workers in ('2', '8'):
+    for workers in ('2', '4', '8'):
         with cases.case(f'cache fills a cache from a server, by {workers} of -n') as folder:
             image = Image(folder)
             with servers.store(image.path('all')) as server:
@@ -217,6 +217,7 @@ def cached(cases):
                 ended = image.run('cache', '-n', '8', '-s', server.url(), '-c', 'near', 'new.caibx')
                 expect_ended(ended, image.refusal(why, 5))
                 image.expect_store('near', 5)
+                expect_equal(sorted(server.asked), sorted(set(server.asked)), 'what was asked, each once')
 
 
 def written(cases):

@@ -76,7 +76,8 @@ fn fills<R: Abort + Threads + Sync>(
     let mut cached = Cached::new(CacheShelf::new(cache), chain_of(rt, alloc, store));
     let mut further = Vec::new(alloc);
     let filled = fill(rt, alloc, &index, &mut cached, &mut further);
-    same(rt, filled, ended);
+    same(rt, filled.result, ended);
+    same(rt, filled.worker, 0);
     let (shelf, chain) = cached.into_parts();
     same(rt, chain.asks(), asks);
     let mut folder = shelf.into_inner();

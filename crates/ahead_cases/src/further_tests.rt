@@ -7,7 +7,7 @@ ghost use Rattle.chunk_store.specs.declared.id.DigestKind.TheVariants as kinds;
 use crate::compare::{ok, same};
 use crate::gated_folder::{Gate, GatedFolder};
 use crate::indexes::{ABC, DEF, GHI, JKL, MNO, PQR, id_of, index_of};
-use cache_fill::fill::{FillFault, fill};
+use cache_fill::fill::{FillEnded, FillFault, fill};
 use cache_store::cached::Cached;
 use cache_store::shelf::CacheShelf;
 use chunk_store::store::Store;
@@ -76,63 +76,86 @@ fn chains_of(
     chains
 }
 
-// How often the stores of all chains were asked.
-fn asks_of(chains: &[Chain<DirStore<GatedFolder>>]) -> u64 {
-    let mut asks = 0u64;
-    for chain in chains {
-        asks = asks.saturating_add(chain.asks());
-    }
-    asks
+// What a filling came to: how it ended, how many chunks the cache has, and how often the stores of each worker were
+// asked, of whom the first is the first.
+#[derive(Drop)]
+struct Came {
+    ended: FillEnded,
+    held: usize,
+    asks: Vec<u64>,
 }
 
-// Fills a cache with this many further workers from stores that lack this chunk, and compares how it ended and how many
-// chunks the cache has then. Answers how often the stores were asked.
+// Fills a cache with this many further workers from stores that lack this chunk.
 fn fills<R: Abort + Threads + Sync>(
     rt: &R,
     alloc: Global,
     count: usize,
     lost: &str,
     gate: Option<&Arc<Gate, Global>>,
-    ended: Result<(), FillFault>,
-    held: usize,
-) -> u64 {
+) -> Came {
     let index = index_of(rt, alloc, &LISTED);
     let shelf = CacheShelf::new(MemFolder::new(alloc, Vec::new(alloc)));
     let mut cached = Cached::new(shelf, chain_of(rt, alloc, lost, gate));
     let mut further = chains_of(rt, alloc, lost, gate, count);
-    let filled = fill(rt, alloc, &index, &mut cached, &mut further);
-    same(rt, filled, ended);
+    let ended = fill(rt, alloc, &index, &mut cached, &mut further);
     same(rt, further.len(), count);
     let (shelf, chain) = cached.into_parts();
     let mut folder = shelf.into_inner();
-    same(rt, ok(rt, folder.names()).len(), held);
-    chain.asks().saturating_add(asks_of(&further))
+    let held = ok(rt, folder.names()).len();
+    let mut asks = ok(rt, vec![in alloc; chain.asks()]);
+    for chain in &further {
+        ok(rt, asks.push(chain.asks()));
+    }
+    Came { ended, held, asks }
+}
+
+// It ended so by this worker, and this many chunks are held.
+fn came_to(
+    rt: &impl Abort,
+    came: &Came,
+    ended: Result<(), FillFault>,
+    worker: usize,
+    held: usize,
+    asks: &[u64],
+) {
+    same(rt, came.ended.result, ended);
+    same(rt, came.ended.worker, worker);
+    same(rt, came.held, held);
+    same(rt, came.asks.as_slice(), asks);
 }
 
 #[test]
 fn each_chunk_is_asked_for_once_by_any_number_of_workers(rt: HostRuntime) {
     let alloc = rt.alloc();
-    for count in [0, 1, 3] {
-        let asks = fills(&rt, alloc, count, "", None, Ok(()), 6);
-        same(&rt, asks, 6);
-    }
+    let alone = fills(&rt, alloc, 0, "", None);
+    came_to(&rt, &alone, Ok(()), 0, 6, &[6]);
+    let one = fills(&rt, alloc, 1, "", None);
+    came_to(&rt, &one, Ok(()), 0, 6, &[0, 6]);
+    let two = fills(&rt, alloc, 2, "", None);
+    came_to(&rt, &two, Ok(()), 0, 6, &[0, 3, 3]);
+    let four = fills(&rt, alloc, 4, "", None);
+    came_to(&rt, &four, Ok(()), 0, 6, &[0, 2, 2, 2, 0]);
 }
 
 #[test]
 fn a_missing_chunk_is_refused_at_its_entry_by_any_number_of_workers(rt: HostRuntime) {
     let alloc = rt.alloc();
-    for count in [0, 1, 3] {
-        let id = id_of(&rt, GHI);
-        let missing = Err(FillFault::Missing { entry: 2, id });
-        let _ = fills(&rt, alloc, count, GHI, None, missing, 2);
-    }
+    let id = id_of(&rt, JKL);
+    let missing = Err(FillFault::Missing { entry: 4, id });
+    let alone = fills(&rt, alloc, 0, JKL, None);
+    came_to(&rt, &alone, missing, 0, 3, &[4]);
+    let one = fills(&rt, alloc, 1, JKL, None);
+    came_to(&rt, &one, missing, 1, 3, &[0, 4]);
+    // The second of two was dealt entries 4 to 6, and asks for no more.
+    let two = fills(&rt, alloc, 2, JKL, None);
+    came_to(&rt, &two, missing, 2, 3, &[0, 3, 1]);
 }
 
 #[test]
 fn two_workers_ask_at_once(rt: HostRuntime) {
     let alloc = rt.alloc();
     let gate = ok(&rt, Arc::new(alloc, Gate::new()));
-    let asks = fills(&rt, alloc, 1, "", Some(&gate), Ok(()), 6);
-    same(&rt, asks, 6);
+    let came = fills(&rt, alloc, 2, "", Some(&gate));
+    came_to(&rt, &came, Ok(()), 0, 6, &[0, 3, 3]);
     same(&rt, gate.passed(), 2);
 }

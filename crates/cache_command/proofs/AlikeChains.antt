@@ -1,5 +1,5 @@
 -- Chains that were opened of the same groups hold alike.
-use Rattle.std.proofs.Common.{◌≡◌, ◌∙◌, ℕ, Bool, List, All, map, is_some, Some, IfSome, IsSome, IsTrue, sym, subst, ap, slice_index_or}
+use Rattle.std.proofs.Common.{◌≡◌, ◌∙◌, ℕ, Bool, List, All, map, is_some, Option, Some, IfSome, IsSome, IsTrue, sym, subst, ap, slice_index_or}
 use Rattle.std.proofs.lemmas.List.Elements.{All-cons}
 use Rattle.command_groups.proofs.LentChains.{chains_later}
 use Rattle.command_groups.specs.Chains.{CanGiveChain, IsChainOpened, chain_groups}
@@ -18,6 +18,7 @@ use Rattle.command_words.specs.declared.command.Location.{Location}
 use Rattle.command_worlds.specs.Worlds.{Reads}
 use Rattle.dsy_base.specs.Disk.{Disk}
 use Rattle.dsy_base.specs.Links.{DialState}
+use Rattle.dsy_base.specs.Maps.{Map}
 use Rattle.dsy_base.specs.declared.look.Look.{Ghosts as LookWords}
 use Rattle.store_chain.specs.Chains.{Chained}
 use Rattle.store_group.specs.Groups.{Grouped}
@@ -34,13 +35,15 @@ module _ {L D K : Type 0} (look : LookWords L) (state : D → DialState) where
       let known_then : All (IsKnown m.folder_counts) (stores_of names) = all_later a.folder_counts m.folder_counts (λ q is. taken_read.folder_known q (further_read.folder_known q is)) (stores_of names) known in
       let given_first : CanGiveChain look m first = subst (λ (l : List (List Location)). All (IsKnown m.folder_counts) (stores_of l)) (sym located) known_then in
       let given_more : All (CanGiveChain look m) more = chains_later look b (with_cache (Some t) m) taken_read more (λ n c lt. (opened_all n c lt).given) in
+      let found_at : (x : Chained (Grouped (AnyStore L D K))) (o : Option (Map (Map (List ℕ)))) → (with_cache (Some t) m).folders ≡ o → IfSome o (λ y. map (files_in look.files) x.stores ≡ map (map (location_files y)) names) → chain_groups look x ≡ names → IfSome (with_cache (Some s) m).folders (λ y. map (files_in look.files) x.stores ≡ map (map (location_files y)) (chain_groups look x)) =
+      λ x o is h at. subst (λ z. IfSome (with_cache (Some z) m).folders (λ y. map (files_in look.files) x.stores ≡ map (map (location_files y)) (chain_groups look x))) (sym shelf_is)
+      (subst (λ (l : List (List Location)). IfSome (with_cache (Some t) m).folders (λ y. map (files_in look.files) x.stores ≡ map (map (location_files y)) l)) (sym at)
+      (subst (λ f. IfSome f (λ y. map (files_in look.files) x.stores ≡ map (map (location_files y)) names)) (sym is) h)) in
       let found_here : IfSome a.folders (λ x. map (files_in look.files) first.stores ≡ map (map (location_files x)) names) =
       subst (λ l. IfSome a.folders (λ x. map (files_in look.files) l ≡ map (map (location_files x)) names)) (sym stores_are)
       (subst (λ o. IfSome o (λ x. map (files_in look.files) xs ≡ map (map (location_files x)) names)) (sym opened_read.folders) found) in
-      let found_then : IfSome (with_cache (Some t) m).folders (λ x. map (files_in look.files) first.stores ≡ map (map (location_files x)) names) =
-      subst (λ o. IfSome o (λ x. map (files_in look.files) first.stores ≡ map (map (location_files x)) names)) (sym (taken_read.folders ∙ further_read.folders)) found_here in
-      let found_at : IfSome (with_cache (Some t) m).folders (λ x. map (files_in look.files) first.stores ≡ map (map (location_files x)) (chain_groups look first)) =
-      subst (λ (l : List (List Location)). IfSome (with_cache (Some t) m).folders (λ x. map (files_in look.files) first.stores ≡ map (map (location_files x)) l)) (sym located) found_then in
+      let found_first : IfSome d.folders (λ x. map (files_in look.files) first.stores ≡ map (map (location_files x)) names) =
+      subst (λ l. IfSome d.folders (λ x. map (files_in look.files) l ≡ map (map (location_files x)) names)) (sym stores_are) found in
       let unused_first : All (AreUnused state) first.stores = subst (λ l. All (AreUnused state) l) (sym stores_are) unused in
       let fresh_first : All (IsFresh (source_faults look.faults state) again) first.stores = subst (λ l. All (IsFresh (source_faults look.faults state) again) l) (sym stores_are) fresh in
       record {
@@ -52,7 +55,9 @@ module _ {L D K : Type 0} (look : LookWords L) (state : D → DialState) where
           held = λ n c lt. let is = opened_all n c lt in
               hold_alike look.files look.place tells look.tells told seen a.folders tells_are names (slice_index_or more n c).stores first.stores is.located located is.found found_here;
         };
-        found = subst (λ x. IfSome (with_cache (Some x) m).folders (λ y. map (files_in look.files) first.stores ≡ map (map (location_files y)) (chain_groups look first))) (sym shelf_is) found_at;
+        found = All-cons (λ c. IfSome (with_cache (Some s) m).folders (λ y. map (files_in look.files) c.stores ≡ map (map (location_files y)) (chain_groups look c))) first more
+            (found_at first d.folders (taken_read.folders ∙ further_read.folders ∙ opened_read.folders) found_first located)
+            (λ n c lt. let is = opened_all n c lt in found_at (slice_index_or more n c) a.folders (taken_read.folders ∙ further_read.folders) is.found is.located);
         cache_named = ap (λ (x : Shelf). x.place) shelf_is ∙ named;
         cache_known = cache_known;
         cache_fresh = ap (λ (x : Shelf). x.faults) shelf_is ∙ unfailed;

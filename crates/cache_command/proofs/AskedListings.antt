@@ -1,9 +1,12 @@
 -- How the stores of all workers are asked while a cache is filled by indexes in order.
-use Rattle.std.proofs.Common.{◌≡◌, ℕ, ◌+◌, ◌≤◌, List, [], ◌∷◌, All, ap, map, max, inl, inr, refl, sym, subst, ◌∙◌, arith}
+use Rattle.std.proofs.Common.{◌≡◌, ℕ, suc, ◌+◌, ◌≤◌, List, [], ◌∷◌, All, ap, length, map, max, inl, inr, refl, sym, subst, ◌∙◌, arith}
+use Rattle.std.proofs.lemmas.List.{length-map}
 use Rattle.std.proofs.lemmas.List.Elements.{All-cons, All-head, All-nil, All-tail}
 use Rattle.std.specs.List.{AllZip}
 use Rattle.cache_command.specs.Caching.{FilledBetween, FrontSpelled, IsGetAmong, listed_times}
 use Rattle.cache_command.specs.Filling.{AsksListings, HoldAlike}
+use Rattle.chunk_dealing.proofs.Owners.{number_many, number_same, number_then, sum_add, sum_zero}
+use Rattle.chunk_dealing.specs.Dealing.{AsksInShares, ByNumber, sum_to}
 use Rattle.cache_fill.specs.Filling.{AsksEntries, FetchesAhead}
 use Rattle.caibx_codec.specs.Asks.{IsListedGet}
 use Rattle.caibx_codec.specs.Listing.{Listing, count_of}
@@ -13,7 +16,7 @@ use Rattle.command_steps.proofs.Asking.{none_more}
 use Rattle.command_indexes.proofs.Spelled.{IsPart, spells_wider}
 use Rattle.command_steps.specs.Sources.{Storage}
 use Rattle.command_words.specs.declared.command.Location.{Location}
-use Rattle.image_chop.specs.Chopping.{AsksListed}
+use Rattle.image_chop.specs.Chopping.{AsksListed, times_listed}
 use Rattle.std.specs.Prelude.{Result}
 use Rattle.store_chain.proofs.Kept.{kept_on, kept_still, kept_weaker}
 use Rattle.store_chain.proofs.Pairs.{all_zip_same}
@@ -65,7 +68,7 @@ module _ {S : Type 0} (store : StoreWords S) where
   abbrev StoresOf : List (Chained S) → List (List S)
   StoresOf cs = map (λ c. c.stores) cs
 
-  remade_all : (P : List S → Type 0) (cs ds : List (Chained S)) → StoresOf ds ≡ StoresOf cs → All (λ c. P c.stores) cs → All (λ d. P d.stores) ds
+  pub remade_all : (P : List S → Type 0) (cs ds : List (Chained S)) → StoresOf ds ≡ StoresOf cs → All (λ c. P c.stores) cs → All (λ d. P d.stores) ds
   remade_all P cs [] same h = All-nil (λ d. P d.stores)
   remade_all P [] (d ∷ ds) same h = absurd (cc)
   remade_all P (c ∷ cs) (d ∷ ds) same h =
@@ -96,6 +99,26 @@ module _ {S : Type 0} (store : StoreWords S) where
       let rest : StoresOf ds ≡ StoresOf cs = cc in
       (remade_asks ls c d e here h.0, remade_asked ls cs ds es rest h.1)
 
+  -- ---- which were made anew since
+
+  asks_to : (ls : List Listing) (c d e : Chained S) → e.stores ≡ d.stores → AsksListings store ls c d → AsksListings store ls c e
+  asks_to ls c d e same h = record {
+    gets = subst (λ xs. AllZip (Few ls) c.stores xs) (sym same) h.gets;
+    heads = ap (map store.queried) same ∙ h.heads;
+    keeps = subst (λ xs. KeepsStores store (IsGetAmong ls) c.stores xs) (sym same) h.keeps;
+  }
+
+  pub asked_to : (ls : List Listing) (cs ds es : List (Chained S)) → StoresOf es ≡ StoresOf ds → AllZip (AsksListings store ls) cs ds → AllZip (AsksListings store ls) cs es
+  asked_to ls [] [] [] same h = h
+  asked_to ls [] [] (e ∷ es) same h = absurd (cc)
+  asked_to ls [] (d ∷ ds) es same h = absurd h
+  asked_to ls (c ∷ cs) [] es same h = absurd h
+  asked_to ls (c ∷ cs) (d ∷ ds) [] same h = absurd (cc)
+  asked_to ls (c ∷ cs) (d ∷ ds) (e ∷ es) same h =
+      let here : e.stores ≡ d.stores = cc in
+      let rest : StoresOf es ≡ StoresOf ds = cc in
+      (asks_to ls c d e here h.0, asked_to ls cs ds es rest h.1)
+
   -- ---- by one after the other
 
   none_listed : (c : Chained S) → AsksListings store [] c c
@@ -115,6 +138,63 @@ module _ {S : Type 0} (store : StoreWords S) where
 
   pub listed_then : (l : Listing) (ls : List Listing) (xs ys zs : List (Chained S)) → AllZip (AsksListings store (l ∷ [])) xs ys → AllZip (AsksListings store ls) ys zs → AllZip (AsksListings store (l ∷ ls)) xs zs
   listed_then l ls xs ys zs h k = each_then (AsksListings store (l ∷ [])) (AsksListings store ls) (AsksListings store (l ∷ ls)) (listed_on l ls) xs ys zs h k
+
+  -- ---- all of them together
+
+  abbrev Shares : (ℕ → List ℕ → ℕ) → ℕ → Chained S → Chained S → Type 0
+  Shares shares k c d = AllZip (λ a b. (q : List ℕ) → store.asked b q ≤ store.asked a q + shares k q) c.stores d.stores
+
+  pub shares_by : (l : Listing) (cs ds : List (Chained S)) → AsksInShares store.asked (times_listed l (count_of l)) cs ds → AsksInShares store.asked (listed_times (l ∷ [])) cs ds
+  shares_by l cs ds h = record { shares = h.shares; together = λ q. (let all = h.together q in omega (arith, all)); gets = h.gets }
+
+  remade_by : (shares : ℕ → List ℕ → ℕ) (m : ℕ) (cs ds es : List (Chained S)) → StoresOf ds ≡ StoresOf cs → ByNumber (Shares shares) m ds es → ByNumber (Shares shares) m cs es
+  remade_by shares m [] [] es same h = h
+  remade_by shares m [] (d ∷ ds) es same h = absurd (cc)
+  remade_by shares m (c ∷ cs) [] es same h = absurd (cc)
+  remade_by shares m (c ∷ cs) (d ∷ ds) [] same h = absurd h
+  remade_by shares m (c ∷ cs) (d ∷ ds) (e ∷ es) same h =
+      let here : d.stores ≡ c.stores = cc in
+      let rest : StoresOf ds ≡ StoresOf cs = cc in
+      (subst (λ xs. AllZip (λ a b. (q : List ℕ) → store.asked b q ≤ store.asked a q + shares m q) xs e.stores) here h.0, remade_by shares (suc m) cs ds es rest h.1)
+
+  pub shares_to : (shares : ℕ → List ℕ → ℕ) (m : ℕ) (cs ds es : List (Chained S)) → StoresOf es ≡ StoresOf ds → ByNumber (Shares shares) m cs ds → ByNumber (Shares shares) m cs es
+  shares_to shares m [] [] [] same h = h
+  shares_to shares m [] [] (e ∷ es) same h = absurd (cc)
+  shares_to shares m [] (d ∷ ds) es same h = absurd h
+  shares_to shares m (c ∷ cs) [] es same h = absurd h
+  shares_to shares m (c ∷ cs) (d ∷ ds) [] same h = absurd (cc)
+  shares_to shares m (c ∷ cs) (d ∷ ds) (e ∷ es) same h =
+      let here : e.stores ≡ d.stores = cc in
+      let rest : StoresOf es ≡ StoresOf ds = cc in
+      (subst (λ xs. AllZip (λ a b. (q : List ℕ) → store.asked b q ≤ store.asked a q + shares m q) c.stores xs) (sym here) h.0, shares_to shares (suc m) cs ds es rest h.1)
+
+  pub remade_shares : (times : List ℕ → ℕ) (cs ds es : List (Chained S)) → StoresOf ds ≡ StoresOf cs → AsksInShares store.asked times ds es → AsksInShares store.asked times cs es
+  remade_shares times cs ds es same h = record {
+    shares = h.shares;
+    together = λ q. subst (λ (n : ℕ). sum_to (λ k. h.shares k q) n ≤ times q) (sym (length-map ds (λ c. c.stores)) ∙ ap length same ∙ length-map cs (λ c. c.stores)) (h.together q);
+    gets = remade_by h.shares 0 cs ds es same h.gets;
+  }
+
+  pub shares_none : (cs : List (Chained S)) → AsksInShares store.asked (listed_times []) cs cs
+  shares_none cs = record {
+    shares = λ k q. 0;
+    together = λ q. (let none = sum_zero (λ k. 0) (length cs) (λ k. refl) in omega (arith, none));
+    gets = number_same (Shares (λ k q. 0)) (λ k c. all_zip_same (λ a b. (q : List ℕ) → store.asked b q ≤ store.asked a q + 0) (λ s q. omega arith) c.stores) 0 cs;
+  }
+
+  pub shares_then : (l : Listing) (ls : List Listing) (xs ys zs : List (Chained S)) → AsksInShares store.asked (listed_times (l ∷ [])) xs ys → AsksInShares store.asked (listed_times ls) ys zs → AsksInShares store.asked (listed_times (l ∷ ls)) xs zs
+  shares_then l ls xs ys zs h k = record {
+    shares = λ n q. h.shares n q + k.shares n q;
+    together = λ q.
+        (let many = number_many (Shares h.shares) 0 xs ys h.gets in
+        let both = sum_add (λ n. h.shares n q) (λ n. k.shares n q) (length xs) in
+        let one = h.together q in
+        let two : sum_to (λ n. k.shares n q) (length xs) ≤ listed_times ls q = subst (λ (n : ℕ). sum_to (λ n. k.shares n q) n ≤ listed_times ls q) (sym many) (k.together q) in
+        omega (arith, both, one, two));
+    gets = number_then (Shares h.shares) (Shares k.shares) (Shares (λ n q. h.shares n q + k.shares n q))
+        (λ n a b c p r. each_then (λ x y. (q : List ℕ) → store.asked y q ≤ store.asked x q + h.shares n q) (λ x y. (q : List ℕ) → store.asked y q ≤ store.asked x q + k.shares n q) (λ x y. (q : List ℕ) → store.asked y q ≤ store.asked x q + (h.shares n q + k.shares n q))
+        (λ x y z f g q. (let first = f q in let next = g q in omega (arith, first, next))) a.stores b.stores c.stores p r) 0 xs ys zs h.gets k.gets;
+  }
 
 -- ---- by fewer workers than there may be
 
@@ -136,6 +216,8 @@ more_workers groups again cache few most indexes w v r less h = record {
     workers = h.asks.workers;
     some = h.asks.some;
     few = omega (arith, h.asks.few, less);
+    shares = h.asks.shares;
+    together = h.asks.together;
     gets = h.asks.gets;
   };
 }

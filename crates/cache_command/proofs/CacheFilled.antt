@@ -1,13 +1,15 @@
 -- Filling a cache by indexes in order: what one of them comes to, from one to the next, and what stands when all is given
 -- back.
-use Rattle.std.proofs.Common.{◌≡◌, ◌⊎◌, ℕ, ◌≤◌, List, [], ◌∷◌, All, length, map, Option, Some, None, IfSome, IsSomeAnd, Result, Ok, Err, IfErr, refl, sym, subst, ap, ◌∙◌, inl, inr, arith, slice_index_or, ◌&&◌, Bool, true, false, IsTrue}
-use Rattle.std.proofs.lemmas.List.{length-map}
+use Rattle.std.proofs.Common.{◌≡◌, ◌⊎◌, ℕ, ◌≤◌, List, [], ◌∷◌, suc, ◌<◌, All, length, map, slice_index, Option, Some, None, IfSome, IsSomeAnd, Result, Ok, Err, IfErr, refl, sym, subst, ap, ◌∙◌, inl, inr, arith, slice_index_or, ◌&&◌, Bool, true, false, IsTrue}
+use Rattle.std.proofs.lemmas.List.{get_or-map, length-map}
+use Rattle.std.proofs.lemmas.List.Elements.{AllZip-get_or, length_all_zip}
+use Rattle.std.specs.List.{AllZip}
 use Rattle.std.specs.Map.{count_at}
 use Rattle.std.specs.Option.{option_map}
 use Rattle.cache_store.proofs.Stocked.{stocks_weaker}
 use Rattle.cache_store.specs.Shelves.{Shelf, Stocks, held_on}
 use Rattle.caibx_codec.specs.Asks.{IsListedGet}
-use Rattle.caibx_codec.specs.Listing.{Listing}
+use Rattle.caibx_codec.specs.Listing.{Listing, id_of, kind_of, size_of}
 use Rattle.chunk_store.specs.Folders.{chunks}
 use Rattle.chunk_store.specs.declared.id.ChunkId.{ChunkId}
 use Rattle.chunk_store.specs.declared.store.Store.{Ghosts as StoreWords}
@@ -54,7 +56,11 @@ use Rattle.store_chain.specs.declared.refused.Refused.TheVariants as refused
 use Rattle.store_chain.specs.declared.query.Query.{Query}
 use Rattle.store_group.specs.Groups.{Grouped, said_of}
 use Rattle.cache_fill.proofs.Holding.{each_within, quiet_within}
-use Rattle.cache_fill.specs.Filling.{EntryFails, FillEnds, FillStops, FillsBy, GivesEntry, HoldsTo, FillUnfailed, RefusesEntry, MayFillCache, entry_want, filled_to}
+use Rattle.cache_command.specs.Filling.{AsksListings, each_stores}
+use Rattle.cache_fill.specs.Filling.{AreQuiet, EntryFails, FillEnds, FillStops, FillsBy, GivesEntry, HoldsTo, FillUnfailed, LosesAhead, LosesEntry, RefusesAhead, RefusesEntry, MayFillCache, StopsAhead, entry_want, fill_fault_of, filled_to}
+use Rattle.cache_store.specs.Giving.{SomeGives}
+use Rattle.chunk_store.specs.Said.{AskedOnce}
+use Rattle.store_chain.specs.Refusals.{Refuses}
 use Rattle.cache_fill.specs.declared.fill.FillFault.{FillFault}
 use Rattle.cache_fill.specs.declared.fill.FillFault.TheVariants as faults
 
@@ -75,10 +81,23 @@ both_true false b t = absurd (cc)
 holds_of : (holds : Option (Map (List ℕ))) (folder : Option (Map (List ℕ))) (f : Map (List ℕ)) → folder ≡ Some f → IfSome folder (λ m. holds ≡ Some (chunks m)) → holds ≡ Some (chunks f)
 holds_of holds folder f is lies = of_told folder (λ m. holds ≡ Some (chunks m)) f is lies
 
-module _ {S : Type 0} (store : StoreWords S) (lies : (s : S) → IfSome (store.folder s) (λ m. store.holds s ≡ Some (chunks m))) (l : Listing) (s0 s1 : Shelf) (c0 c1 : Chained S)
-    (kept : KeepsStores store (IsListedGet l) c0.stores c1.stores) where
+-- the worker whose stores refused a chunk is one of all
+pub worker_inside : {S : Type 0} (store : StoreWords S) (l : Listing) (s0 s1 : Shelf) (c0 c1 : Chained S) (f0 f1 : List (Chained S)) (worker : ℕ) (r : Result Unit FillFault) → FillEnds store l s0 s1 c0 c1 f0 f1 worker r → worker ≤ length f1
+worker_inside store l s0 s1 c0 c1 f0 f1 worker (Ok u) h = omega (arith, h.0)
+worker_inside store l s0 s1 c0 c1 f0 f1 worker (Err fault) (inl h) = omega (arith, h.0)
+worker_inside store l s0 s1 c0 c1 f0 f1 worker (Err fault) (inr h) = omega (arith, h.number, h.inside)
+
+-- chains whose stores haven't failed
+quiet_each : {S : Type 0} (counted : S → ℕ) (f0 f1 : List (Chained S)) → AllZip (λ a b. EachQuiet (map counted a) (map counted b)) (each_stores f0) (each_stores f1) → AreQuiet counted f0 f1
+quiet_each counted [] [] h = tt
+quiet_each counted [] (d ∷ ds) h = h
+quiet_each counted (c ∷ cs) [] h = h
+quiet_each counted (c ∷ cs) (d ∷ ds) h = (h.0, quiet_each counted cs ds h.1)
+
+module _ {S : Type 0} (store : StoreWords S) (lies : (s : S) → IfSome (store.folder s) (λ m. store.holds s ≡ Some (chunks m))) (l : Listing) (s0 s1 : Shelf) (c0 c1 : Chained S) (f0 f1 : List (Chained S)) (worker : ℕ)
+    (kept : KeepsStores store (IsListedGet l) c0.stores c1.stores) (many : length f0 ≡ length f1) (alike : All (λ x. map store.holds x.stores ≡ map store.holds c0.stores) f0) where
   abbrev Calls : Evidence
-  Calls = of_calls store c0.stores c1.stores s0.faults s1.faults
+  Calls = of_calls store (each_stores (c0 ∷ f0)) (each_stores (c1 ∷ f1)) worker s0.faults s1.faults
 
   all_hold : (xs : List S) (fs : List (Map (List ℕ))) → map store.folder xs ≡ map Some fs → map store.holds xs ≡ map Some (map chunks fs)
   all_hold [] [] told = refl
@@ -102,18 +121,30 @@ module _ {S : Type 0} (store : StoreWords S) (lies : (s : S) → IfSome (store.f
       let weaker = stocks_weaker (MayFillCache store.holds l c0.stores) (IsHeldListed Calls l) held_listed s0 s1 h in
       record { tells = weaker.told; chunks_are = weaker.chunks; strangers = weaker.strangers }
 
-  exact : (r : Result Unit FillFault) → ((m : Map (List ℕ)) (maps : List (Map (List ℕ))) → FillUnfailed store.holds store.faults l m maps s0 s1 c0.stores c1.stores → FillsBy l m maps r) → FillExactly Calls l s0.files r
+  exact : (r : Result Unit FillFault) → ((m : Map (List ℕ)) (maps : List (Map (List ℕ))) → FillUnfailed store.holds store.faults l m maps s0 s1 c0.stores c1.stores → AreQuiet store.faults f0 f1 → FillsBy l m maps r) → FillExactly Calls l s0.files r
   exact r h = λ fs told unfailed. if_told (option_map chunks s0.files) _ (λ m held_is sizes.
-      h m (map chunks fs) (record { held = held_is; told = maps_of fs told; shelf = unfailed.0; stores = unfailed.1; sizes = sizes }))
+      h m (map chunks fs) (record { held = held_is; told = maps_of fs told; shelf = unfailed.0; stores = (unfailed.1).0; sizes = sizes }) (quiet_each store.faults f0 f1 (unfailed.1).1))
+
+  abbrev Told : Query → Refused → List S → Type 0
+  Told w r told = (asked : List S) × (length asked ≡ length told) × Refuses store.said store.faults store.may_lack_memory w asked told r
+
+  others : (entry : ℕ) (x y : Option (Map (List ℕ))) → IfSome x (λ m. IfSome y (λ n. (q : List ℕ) → (chunks n q ≡ chunks m q) ⊎ ((b : List ℕ) × (chunks n q ≡ Some b) × IsAmong l entry q)))
+      → IfSome x (λ f. IfSome y (λ g. (q : List ℕ) → (chunks g q ≡ chunks f q) ⊎ IsAmong l entry q))
+  others entry None y h = tt
+  others entry (Some f) None h = tt
+  others entry (Some f) (Some g) h = λ q. elim (h q) [
+    | inl same ↦ inl same
+    | inr new ↦ inr new.2
+  ]
 
   -- where it ended early
-  module _ (fault : FillFault) (h : FillStops store l fault s0 s1 c0 c1) where
+  module _ (first : worker ≡ 0) (fault : FillFault) (h : FillStops store l fault s0 s1 c0 c1) where
     lost : (id : ChunkId) (r : Refused) → RefusesEntry store l h.entry id r h.shelf s1 h.chain c1 → IsNotHad Calls l s1.files h.entry id r
     lost id r e = record {
       id_is = e.id_is;
       cache = if_told (option_map chunks s1.files) (λ m. GivesEntry l h.entry m → Rose s0.faults s1.faults)
           (λ m is gives. rose_later s0.faults h.shelf.faults s1.faults h.before.stocks.never_falls (of_told (held_on h.shelf) (λ m. GivesEntry l h.entry m → Rose h.shelf.faults s1.faults) m (ap (option_map chunks) (sym e.kept) ∙ is) e.unfound gives));
-      said = (h.chain.stores, same_length store.place h.chain.stores c1.stores (h.before.stores.places ∙ sym kept.places), e.refused);
+      said = subst (λ (n : ℕ). Told (entry_want l h.entry id) r (slice_index_or (each_stores (c1 ∷ f1)) n [])) (sym first) (h.chain.stores, same_length store.place h.chain.stores c1.stores (h.before.stores.places ∙ sym kept.places), e.refused);
       lacks = λ fs told. e.lacks (map chunks fs) (h.before.stores.held ∙ maps_of fs told);
     }
 
@@ -121,34 +152,62 @@ module _ {S : Type 0} (store : StoreWords S) (lies : (s : S) → IfSome (store.f
     tells (faults.Missing k id) e = (e.0, lost id refused.Missing e.1)
     tells (faults.Damaged k id s x) e = (e.0, lost id (refused.Damaged s x) e.1)
     tells (faults.StoreFault s) e = (e.0, lost e.0 (refused.StoreFault s) e.1)
-    tells faults.CacheFault e = (rose_later s0.faults h.shelf.faults s1.faults h.before.stocks.never_falls e.1, λ fs told. e.0.gives (map chunks fs) (h.before.stores.held ∙ maps_of fs told))
+    tells faults.CacheFault e = (rose_later s0.faults h.shelf.faults s1.faults h.before.stocks.never_falls e.1, λ fs told. gave e.0 (map chunks fs) (h.before.stores.held ∙ maps_of fs told)) where
+      gave : LosesEntry store l h.entry h.shelf s1 h.chain c1 ⊎ LosesAhead store l h.entry h.shelf s1 h.chain c1 → (maps : List (Map (List ℕ))) → map store.holds h.chain.stores ≡ map Some maps → SomeGives (kind_of l) (id_of l h.entry) (size_of l h.entry) maps
+      gave (inl lost) = lost.gives
+      gave (inr lost) = lost.gives
     tells faults.Memory e = tt
-
-    others : (x y : Option (Map (List ℕ))) → IfSome x (λ m. IfSome y (λ n. (q : List ℕ) → (chunks n q ≡ chunks m q) ⊎ ((b : List ℕ) × (chunks n q ≡ Some b) × IsAmong l h.entry q)))
-        → IfSome x (λ f. IfSome y (λ g. (q : List ℕ) → (chunks g q ≡ chunks f q) ⊎ IsAmong l h.entry q))
-    others None y h = tt
-    others (Some f) None h = tt
-    others (Some f) (Some g) h = λ q. elim (h q) [
-      | inl same ↦ inl same
-      | inr new ↦ inr new.2
-    ]
 
     stops : StopsFilling Calls l fault s0.files s1.files
     stops = record {
       entry = h.entry;
       listed = h.listed;
       holds = h.holds;
-      others = others s0.files s1.files h.stocks.chunks;
+      others = others h.entry s0.files s1.files h.stocks.chunks;
       tells = tells fault h.fails;
     }
 
-  ended : (r : Result Unit FillFault) → FillEnds store l s0 s1 c0 c1 r → IfErr r (λ fault. EndsFilling Calls l fault s0.files s1.files)
-  ended (Ok u) h = tt
-  ended (Err fault) (inl none) = inl (none.0, ap (λ (s : Shelf). s.files) none.1)
-  ended (Err fault) (inr h) = inr (stops fault h)
+  -- at an entry that the stores of a further worker refused
+  module _ (fault : FillFault) (h : StopsAhead store l fault worker s0 s1 c0 c1 f0 f1) where
+    told_is : slice_index_or (each_stores (c1 ∷ f1)) worker [] ≡ (slice_index_or f1 h.further c0).stores
+    told_is =
+        let number : worker ≡ suc h.further = omega (arith, h.number) in
+        ap (λ (n : ℕ). slice_index_or (each_stores (c1 ∷ f1)) n []) number ∙ get_or-map (λ (c : Chained S). c.stores) f1 h.further c0 [] h.inside
 
-  pub index_filled : (r : Result Unit FillFault) → FillEnds store l s0 s1 c0 c1 r → Stocks (MayFillCache store.holds l c0.stores) s0 s1 → HoldsTo l (filled_to l r) s1
-      → ((m : Map (List ℕ)) (maps : List (Map (List ℕ))) → FillUnfailed store.holds store.faults l m maps s0 s1 c0.stores c1.stores → FillsBy l m maps r) → IndexFilled Calls l s0.files s1.files r
+    lost_ahead : (id : ChunkId) (r : Refused) → RefusesAhead store l h.entry id r (slice_index_or f0 h.further c0) (slice_index_or f1 h.further c0) → IsNotHad Calls l s1.files h.entry id r
+    lost_ahead id r e = record {
+      id_is = e.id_is;
+      cache = if_told (option_map chunks s1.files) (λ m. GivesEntry l h.entry m → Rose s0.faults s1.faults)
+          (λ m is gives. rose_later s0.faults h.shelf.faults s1.faults h.before.stocks.never_falls (of_told (held_on h.shelf) (λ m. GivesEntry l h.entry m → Rose h.shelf.faults s1.faults) m (ap (option_map chunks) (sym h.kept) ∙ is) h.unfound gives));
+      said = subst (Told (entry_want l h.entry id) r) (sym told_is) (e.chain.stores, length_all_zip (λ a b. AskedOnce (store.asked a) (store.asked b) (id_of l h.entry)) e.chain.stores (slice_index_or f1 h.further c0).stores e.asked.stores, e.refused);
+      lacks = λ fs told. e.lacks (map chunks fs) (alike h.further c0 (omega (arith, many, h.inside)) ∙ maps_of fs told);
+    }
+
+    tells_ahead : (id : ChunkId) (r : Refused) → RefusesAhead store l h.entry id r (slice_index_or f0 h.further c0) (slice_index_or f1 h.further c0) → FillTells Calls l s1.files h.entry (fill_fault_of h.entry id r)
+    tells_ahead id refused.Missing e = (refl, lost_ahead id refused.Missing e)
+    tells_ahead id (refused.Damaged s x) e = (refl, lost_ahead id (refused.Damaged s x) e)
+    tells_ahead id (refused.StoreFault s) e = (id, lost_ahead id (refused.StoreFault s) e)
+    tells_ahead id refused.Memory e = tt
+
+    stops_ahead : StopsFilling Calls l fault s0.files s1.files
+    stops_ahead =
+        let told = h.refused c0 in
+        record {
+          entry = h.entry;
+          listed = h.listed;
+          holds = h.holds;
+          others = others h.entry s0.files s1.files h.stocks.chunks;
+          tells = subst (FillTells Calls l s1.files h.entry) (sym told.2) (tells_ahead told.0 told.1 told.3);
+        }
+
+  ended : (r : Result Unit FillFault) → FillEnds store l s0 s1 c0 c1 f0 f1 worker r → IfErr r (λ fault. EndsFilling Calls l fault s0.files s1.files)
+  ended (Ok u) h = tt
+  ended (Err fault) (inl (first, inl none)) = inl (none.0, ap (λ (s : Shelf). s.files) none.1)
+  ended (Err fault) (inl (first, inr h)) = inr (stops first fault h)
+  ended (Err fault) (inr h) = inr (stops_ahead fault h)
+
+  pub index_filled : (r : Result Unit FillFault) → FillEnds store l s0 s1 c0 c1 f0 f1 worker r → Stocks (MayFillCache store.holds l c0.stores) s0 s1 → HoldsTo l (filled_to l r) s1
+      → ((m : Map (List ℕ)) (maps : List (Map (List ℕ))) → FillUnfailed store.holds store.faults l m maps s0 s1 c0.stores c1.stores → AreQuiet store.faults f0 f1 → FillsBy l m maps r) → IndexFilled Calls l s0.files s1.files r
   index_filled r ends stocks all exactly = record { added = added stocks; holds = all; exactly = exact r exactly; order = ended r ends }
 
 -- ---- seen over more calls
@@ -226,30 +285,52 @@ fills_next : (over : Evidence) (w v : Storage) (q : List ℕ) (indexes : List (L
 fills_next over w v q indexes l x z y (Ok u) listed filled rest = (l, listed, z, filled, rest)
 fills_next over w v q indexes l x z y (Err o) listed filled rest = inr (l, listed, inr (z, filled, rest))
 
+quiet_first : {S : Type 0} (counted : S → ℕ) (b0 b1 b2 : List (List S)) → AllZip (λ a b. NoneFalls (map counted a) (map counted b)) b0 b1 → AllZip (λ a b. NoneFalls (map counted a) (map counted b)) b1 b2
+    → AllZip (λ a b. EachQuiet (map counted a) (map counted b)) b0 b2 → AllZip (λ a b. EachQuiet (map counted a) (map counted b)) b0 b1
+quiet_first counted [] [] b2 fell falls quiet = tt
+quiet_first counted [] (y ∷ b1) b2 fell falls quiet = fell
+quiet_first counted (x ∷ b0) [] b2 fell falls quiet = fell
+quiet_first counted (x ∷ b0) (y ∷ b1) [] fell falls quiet = absurd falls
+quiet_first counted (x ∷ b0) (y ∷ b1) (z ∷ b2) fell falls quiet =
+    (each_within (map counted x) (map counted x) (map counted y) (map counted z) (λ k. omega arith) falls.0 quiet.0, quiet_first counted b0 b1 b2 fell.1 falls.1 quiet.1)
+
+quiet_next : {S : Type 0} (counted : S → ℕ) (b0 b1 b2 : List (List S)) → AllZip (λ a b. NoneFalls (map counted a) (map counted b)) b0 b1 → AllZip (λ a b. NoneFalls (map counted a) (map counted b)) b1 b2
+    → AllZip (λ a b. EachQuiet (map counted a) (map counted b)) b0 b2 → AllZip (λ a b. EachQuiet (map counted a) (map counted b)) b1 b2
+quiet_next counted [] [] b2 fell falls quiet = quiet
+quiet_next counted [] (y ∷ b1) b2 fell falls quiet = absurd fell
+quiet_next counted (x ∷ b0) [] b2 fell falls quiet = absurd fell
+quiet_next counted (x ∷ b0) (y ∷ b1) [] fell falls quiet = falls
+quiet_next counted (x ∷ b0) (y ∷ b1) (z ∷ b2) fell falls quiet =
+    (each_within (map counted x) (map counted y) (map counted z) (map counted z) fell.0 (λ k. omega arith) quiet.0, quiet_next counted b0 b1 b2 fell.1 falls.1 quiet.1)
+
+-- no count of them has fallen
+pub none_fell : {S : Type 0} (store : StoreWords S) (ls : List Listing) (cs ds : List (Chained S)) → AllZip (AsksListings store ls) cs ds → AllZip (λ a b. NoneFalls (map store.faults a) (map store.faults b)) (each_stores cs) (each_stores ds)
+none_fell store ls [] [] h = tt
+none_fell store ls [] (d ∷ ds) h = h
+none_fell store ls (c ∷ cs) [] h = h
+none_fell store ls (c ∷ cs) (d ∷ ds) h = ((h.0).keeps.never_fall, none_fell store ls cs ds h.1)
+
 -- the call for the first index, and the calls for the rest. The cache's count of faults goes from m0 to m1 to m2, and the
--- stores from c0 to c1 to c2
-module _ {S : Type 0} (store : StoreWords S) (m0 m1 m2 : ℕ) (c0 c1 c2 : List S) (below : m0 ≤ m1) (above : m1 ≤ m2) (same : map store.folder c1 ≡ map store.folder c0)
-    (fell : NoneFalls (map store.faults c0) (map store.faults c1)) (falls : NoneFalls (map store.faults c1) (map store.faults c2)) (w u v : Storage) (part : IsPart w u v v) where
-  abbrev counted : S → ℕ
-  counted = store.faults
+-- stores of all workers from b0 to b1 to b2
+module _ {S : Type 0} (store : StoreWords S) (m0 m1 m2 : ℕ) (b0 b1 b2 : List (List S)) (worker_1 worker_2 : ℕ) (below : m0 ≤ m1) (above : m1 ≤ m2) (same : map store.folder (slice_index_or b1 0 []) ≡ map store.folder (slice_index_or b0 0 []))
+    (fell : AllZip (λ a b. NoneFalls (map store.faults a) (map store.faults b)) b0 b1) (falls : AllZip (λ a b. NoneFalls (map store.faults a) (map store.faults b)) b1 b2) (w u v : Storage) (part : IsPart w u v v) where
+  abbrev Still : ℕ → ℕ → List (List S) → List (List S) → Type 0
+  Still m n old new = Quiet m n × AllZip (λ a b. EachQuiet (map store.faults a) (map store.faults b)) old new
 
-  abbrev Still : ℕ → ℕ → List S → List S → Type 0
-  Still m n old new = Quiet m n × EachQuiet (map counted old) (map counted new)
+  still_first : Still m0 m2 b0 b2 → Still m0 m1 b0 b1
+  still_first quiet = (quiet_within m0 m0 m1 m2 (omega arith) above quiet.0, quiet_first store.faults b0 b1 b2 fell falls quiet.1)
 
-  still_first : Still m0 m2 c0 c2 → Still m0 m1 c0 c1
-  still_first quiet = (quiet_within m0 m0 m1 m2 (omega arith) above quiet.0, each_within (map counted c0) (map counted c0) (map counted c1) (map counted c2) (λ k. omega arith) falls quiet.1)
-
-  still_next : Still m0 m2 c0 c2 → Still m1 m2 c1 c2
-  still_next quiet = (quiet_within m0 m1 m2 m2 below (omega arith) quiet.0, each_within (map counted c0) (map counted c1) (map counted c2) (map counted c2) fell (λ k. omega arith) quiet.1)
+  still_next : Still m0 m2 b0 b2 → Still m1 m2 b1 b2
+  still_next quiet = (quiet_within m0 m1 m2 m2 below (omega arith) quiet.0, quiet_next store.faults b0 b1 b2 fell falls quiet.1)
 
   abbrev first : Evidence
-  first = of_calls store c0 c1 m0 m1
+  first = of_calls store b0 b1 worker_1 m0 m1
 
   abbrev next : Evidence
-  next = of_calls store c1 c2 m1 m2
+  next = of_calls store b1 b2 worker_2 m1 m2
 
   abbrev all : Evidence
-  all = of_calls store c0 c2 m0 m2
+  all = of_calls store b0 b2 worker_2 m0 m2
 
   pub fills_on : (q : List ℕ) (indexes : List (List ℕ)) (l : Listing) (x z y : Option (Map (List ℕ))) (r : Result Unit Outcome) → IndexSpells w v q l → IndexFilled first l x z (Ok tt) → FillsEach next u v indexes z y r → FillsEach all w v (q ∷ indexes) x y r
   fills_on q indexes l x z y r listed filled rest =
@@ -290,13 +371,8 @@ held_so (Some n) names xs fs found told = found ∙ told
 
 -- the disk was read while the cache was filled, which was s and became t; then its folder was given back, and the groups
 -- of stores
-module _ {L D K : Type 0} (look : LookWords L) (state : D → DialState) (again : ℕ) (cache : List ℕ) (s t : Shelf)
-    (d0 b c e : Disk) (i k j : DialState) (names : List (List Location)) (before after : List (Grouped (AnyStore L D K)))
+module _ (cache : List ℕ) (s t : Shelf) (d0 b c e : Disk) (i k j : DialState) (names : List (List Location))
     (s_is : s.place ≡ cache) (t_is : t.place ≡ cache) (reads : Reads d0 b) (gives : CacheGiven (Some t) b c) (closes : ConsultsStores (stores_of names) (storage c k) (storage e j))
-    (fresh : All (IsFresh (source_faults look.faults state) again) before) (located : map (locations_in look.place) after ≡ names) (tries : All (λ g. g.retries ≡ again) after)
-    (same : map (files_in look.files) after ≡ map (files_in look.files) before) (told_same : map (told_files look.files) after ≡ map (told_files look.files) before)
-    (found : IfSome (with_cache (Some s) d0).folders (λ m. map (files_in look.files) before ≡ map (map (location_files m)) names))
-    (gained : All (IsGroupGiven look.place look.faults state (storage c k) (storage e j)) after)
     (part : IsPart (storage (with_cache (Some s) d0) i) (storage d0 i) (storage b k) (storage e j)) where
   abbrev d : Disk
   d = with_cache (Some s) d0
@@ -310,10 +386,6 @@ module _ {L D K : Type 0} (look : LookWords L) (state : D → DialState) (again 
   gave : Adds b c
   gave = given_adds (Some t) b c gives
 
-  -- as many groups as before
-  many : length before ≡ length names
-  many = sym (length-map before (told_files look.files)) ∙ ap length (sym told_same) ∙ length-map after (told_files look.files) ∙ sym (length-map after (locations_in look.place)) ∙ ap length located
-
   opened : (q : List ℕ) → count_at d.folder_counts q ≤ count_at c.folder_counts q
   opened q = omega (arith, reads.folder_counts q, gave.folder_counts q)
 
@@ -326,12 +398,6 @@ module _ {L D K : Type 0} (look : LookWords L) (state : D → DialState) (again 
     folder_known = λ q is. closes.0.disk.folder_known q (gave.folder_known q (reads.folder_known q is));
   }
 
-  given_all : All (IsGroupGiven look.place look.faults state w v) after
-  given_all = λ n g lt. group_given_earlier look.place look.faults state w (storage c k) v opened part.during closes.0.dial (slice_index_or after n g) (gained n g lt)
-
-  stand : All (Standing look.files look.place look.faults state again w v) after
-  stand = all_groups_stand look.files look.place look.faults state again w v after names located (found_after look.files d.folders before after names same found) tries given_all
-
   cache_at : Rose 0 t.faults → FolderRose d e t.place
   cache_at rose =
       rose_longer (count_at d.folder_counts t.place) (count_at c.folder_counts t.place) (count_at e.folder_counts t.place) (closes.0.disk.folder_counts t.place)
@@ -340,42 +406,86 @@ module _ {L D K : Type 0} (look : LookWords L) (state : D → DialState) (again 
   cache_failed : Rose 0 t.faults → FolderRose d e cache
   cache_failed rose = subst (λ (q : List ℕ). FolderRose d e q) t_is (cache_at rose)
 
-  held : (fs : List (Map (List ℕ))) → (of_command again w v names cache).holds fs → map (told_files look.files) before ≡ map Some fs
-  held fs told = held_so d.folders names (map (told_files look.files) before) fs (groups_tell look.files d.folders before names found) told
-
-  none_failed : (fs : List (Map (List ℕ))) → (of_command again w v names cache).holds fs → DiskQuiet d e → Quiet 0 t.faults × EachQuiet (map (λ g. g.failed) before) (map (λ g. g.failed) after)
-  none_failed fs told quiet =
+  cache_quiet : DiskQuiet d e → Quiet 0 t.faults
+  cache_quiet quiet =
       let here = quiet.folders t.place in
-      let between : Quiet (count_at d.folder_counts t.place) (count_at c.folder_counts t.place) = record { same = omega (arith, here.same, closes.0.disk.folder_counts t.place); below = omega (arith, here.below, closes.0.disk.folder_counts t.place) } in (
-        given_quiet (count_at d.folder_counts t.place) (count_at b.folder_counts t.place) (count_at c.folder_counts t.place) t.faults (reads.folder_counts t.place) gives.1.folder_counts.added between,
-        groups_quiet look.files look.place look.faults state w v names fs before after (fresh_counts (source_faults look.faults state) again before names many fresh) (told_same ∙ held fs told) given_all quiet.folders,
-      )
+      let between : Quiet (count_at d.folder_counts t.place) (count_at c.folder_counts t.place) = record { same = omega (arith, here.same, closes.0.disk.folder_counts t.place); below = omega (arith, here.below, closes.0.disk.folder_counts t.place) } in
+      given_quiet (count_at d.folder_counts t.place) (count_at b.folder_counts t.place) (count_at c.folder_counts t.place) t.faults (reads.folder_counts t.place) gives.1.folder_counts.added between
 
   back : e.folders ≡ option_map (λ (m : Map (Map (List ℕ))). at_name m cache t.files) d.folders
   back = closes.0.disk.folders ∙ gives.0 ∙ ap (option_map (λ (m : Map (Map (List ℕ))). at_name m t.place t.files)) reads.folders
       ∙ ap (λ (q : List ℕ). option_map (λ (m : Map (Map (List ℕ))). at_name m q t.files) d0.folders) (t_is ∙ sym s_is) ∙ put_twice d0.folders s.place s.files t.files
       ∙ ap (λ (q : List ℕ). option_map (λ (m : Map (Map (List ℕ))). at_name m q t.files) d.folders) s_is
 
-  abbrev active : List ℕ
-  active = map (λ g. g.active) after
+  module _ {L D K : Type 0} (look : LookWords L) (state : D → DialState) (again : ℕ) where
+    abbrev Words : StoreWords (Grouped (AnyStore L D K))
+    Words = group_words look state
 
-  refuse : (c : Query) (r n : Refused) → IsTold names active r n → (of_calls (group_words look state) before after 0 t.faults).refused c r → HaveLackedIn again c w v names n
-  refuse c r n is h =
-      told_lack names active (active_inside look.place after names located (λ n g lt. (given_all n g lt).active)) again w v c r n is
-      (groups_lack (locations_in look.place) (λ g. said_of (said_in look.files state) g.stores) (λ g. g.failed) again w v names true c r h.0 after h.1 located stand h.2)
+    -- the groups of one worker, which were new, and given back
+    pub record IsBack (before after : List (Grouped (AnyStore L D K))) : Type 0 where
+      pub fresh : All (IsFresh (source_faults look.faults state) again) before
+      pub located : map (locations_in look.place) after ≡ names
+      pub tries : All (λ g. g.retries ≡ again) after
+      pub same : map (files_in look.files) after ≡ map (files_in look.files) before
+      pub told_same : map (told_files look.files) after ≡ map (told_files look.files) before
+      pub found : IfSome (with_cache (Some s) d0).folders (λ m. map (files_in look.files) before ≡ map (map (location_files m)) names)
+      pub gained : All (IsGroupGiven look.place look.faults state (storage c k) (storage e j)) after
 
-  pub filled_between : (most : ℕ) (indexes : List (List ℕ)) (r : Result Unit Outcome) → FillsEach (of_calls (group_words look state) before after 0 t.faults) (storage d0 i) (storage b k) indexes s.files t.files r
-      → (IsTrue (are_files indexes) → k ≡ i) → GetsListed w v again most indexes names → FilledBetween names again cache most indexes w v (answer_of_stores names active r)
-  filled_between most indexes r h undialed gets = record {
-    held = s.files;
-    was = subst (λ (q : List ℕ). IfSome d.folders (λ m. m q ≡ s.files)) s_is (was_put d0.folders s.place s.files);
-    now = t.files;
-    filled = fills_wider (of_calls (group_words look state) before after 0 t.faults) (of_command again w v names cache) held none_failed
-        (IsTold names active) refuse refl (λ fs told c r n is lacks. told_maps names active (active_inside look.place after names located (λ n g lt. (given_all n g lt).active)) d.folders fs told c r n is lacks) cache_failed
-        (storage d0 i) (storage b k) w v part indexes s.files t.files r (answer_of_stores names active r) (told_answer names active r) h;
-    back = back;
-    adds = all_adds;
-    dials = dials_twice i k j part.during closes.0.dial;
-    undialed = λ both. let each = both_true (are_folders (stores_of names)) (are_files indexes) both in closes.1 each.0 ∙ undialed each.1;
-    asks = gets;
-  }
+    module _ (before after : List (Grouped (AnyStore L D K))) (is : IsBack before after) where
+      -- as many groups as before
+      many : length before ≡ length names
+      many = sym (length-map before (told_files look.files)) ∙ ap length (sym is.told_same) ∙ length-map after (told_files look.files) ∙ sym (length-map after (locations_in look.place)) ∙ ap length is.located
+
+      given_all : All (IsGroupGiven look.place look.faults state w v) after
+      given_all = λ n g lt. group_given_earlier look.place look.faults state w (storage c k) v opened part.during closes.0.dial (slice_index_or after n g) (is.gained n g lt)
+
+      stand : All (Standing look.files look.place look.faults state again w v) after
+      stand = all_groups_stand look.files look.place look.faults state again w v after names is.located (found_after look.files d.folders before after names is.same is.found) is.tries given_all
+
+      held : (fs : List (Map (List ℕ))) → (of_command again w v names cache).holds fs → map (told_files look.files) before ≡ map Some fs
+      held fs told = held_so d.folders names (map (told_files look.files) before) fs (groups_tell look.files d.folders before names is.found) told
+
+      quiet : (fs : List (Map (List ℕ))) → (of_command again w v names cache).holds fs → DiskQuiet d e → EachQuiet (map (λ g. g.failed) before) (map (λ g. g.failed) after)
+      quiet fs told still =
+          groups_quiet look.files look.place look.faults state w v names fs before after (fresh_counts (source_faults look.faults state) again before names many is.fresh) (is.told_same ∙ held fs told) given_all still.folders
+
+      inside : (n : ℕ) → n < length names → slice_index (map (λ (g : Grouped (AnyStore L D K)). g.active) after) n < length (slice_index_or names n [])
+      inside = active_inside look.place after names is.located (λ n g lt. (given_all n g lt).active)
+
+      refuse : (q : Query) (r n : Refused) → IsTold names (map (λ g. g.active) after) r n
+          → (asked : List (Grouped (AnyStore L D K))) × (length asked ≡ length after) × Refuses Words.said Words.faults Words.may_lack_memory q asked after r → HaveLackedIn again q w v names n
+      refuse q r n told h =
+          told_lack names (map (λ g. g.active) after) inside again w v q r n told
+          (groups_lack (locations_in look.place) (λ g. said_of (said_in look.files state) g.stores) (λ g. g.failed) again w v names true q r h.0 after h.1 is.located stand h.2)
+
+    all_quiet : (fs : List (Map (List ℕ))) → (of_command again w v names cache).holds fs → DiskQuiet d e → (befores afters : List (List (Grouped (AnyStore L D K)))) → AllZip IsBack befores afters → AllZip (λ x y. EachQuiet (map (λ g. g.failed) x) (map (λ g. g.failed) y)) befores afters
+    all_quiet fs told still [] [] backs = tt
+    all_quiet fs told still [] (y ∷ afters) backs = backs
+    all_quiet fs told still (x ∷ befores) [] backs = backs
+    all_quiet fs told still (x ∷ befores) (y ∷ afters) backs = (quiet x y backs.0 fs told still, all_quiet fs told still befores afters backs.1)
+
+    -- the groups of all workers, of which the first are `before`, and that whose stores refused a chunk
+    pub filled_between : (before : List (Grouped (AnyStore L D K))) (befores afters : List (List (Grouped (AnyStore L D K)))) → AllZip IsBack (before ∷ befores) afters → (worker : ℕ) → worker < length afters → (most : ℕ) (indexes : List (List ℕ)) (r : Result Unit Outcome)
+        → FillsEach (of_calls (group_words look state) (before ∷ befores) afters worker 0 t.faults) (storage d0 i) (storage b k) indexes s.files t.files r
+        → (IsTrue (are_files indexes) → k ≡ i) → GetsListed w v again most indexes names → FilledBetween names again cache most indexes w v (answer_of_stores names (map (λ (g : Grouped (AnyStore L D K)). g.active) (slice_index_or afters worker [])) r)
+    filled_between before befores [] backs worker less most indexes r h undialed gets = absurd backs
+    filled_between before befores (after ∷ afters) backs worker less most indexes r h undialed gets =
+        let their : List (Grouped (AnyStore L D K)) = slice_index_or (after ∷ afters) worker [] in
+        let was : List (Grouped (AnyStore L D K)) = slice_index_or (before ∷ befores) worker [] in
+        let active = map (λ (g : Grouped (AnyStore L D K)). g.active) their in
+        let as_many : length (before ∷ befores) ≡ length (after ∷ afters) = length_all_zip IsBack (before ∷ befores) (after ∷ afters) backs in
+        let is : IsBack was their = AllZip-get_or IsBack (before ∷ befores) (after ∷ afters) worker [] [] backs (omega (arith, less, as_many)) in
+        record {
+          held = s.files;
+          was = subst (λ (q : List ℕ). IfSome d.folders (λ m. m q ≡ s.files)) s_is (was_put d0.folders s.place s.files);
+          now = t.files;
+          filled = fills_wider (of_calls (group_words look state) (before ∷ befores) (after ∷ afters) worker 0 t.faults) (of_command again w v names cache) (held before after backs.0)
+              (λ fs told still. (cache_quiet still, all_quiet fs told still (before ∷ befores) (after ∷ afters) backs))
+              (IsTold names active) (refuse was their is) refl (λ fs told q r n is_told lacks. told_maps names active (inside was their is) d.folders fs told q r n is_told lacks) cache_failed
+              (storage d0 i) (storage b k) w v part indexes s.files t.files r (answer_of_stores names active r) (told_answer names active r) h;
+          back = back;
+          adds = all_adds;
+          dials = dials_twice i k j part.during closes.0.dial;
+          undialed = λ both. let each = both_true (are_folders (stores_of names)) (are_files indexes) both in closes.1 each.0 ∙ undialed each.1;
+          asks = gets;
+        }

@@ -1,15 +1,18 @@
 -- The chains of all workers when they are given back.
-use Rattle.std.proofs.Common.{◌≡◌, ◌∙◌, ℕ, suc, ◌+◌, ◌<◌, List, ◌∷◌, All, length, map, Option, refl, arith, slice_index_or}
+use Rattle.std.proofs.Common.{◌≡◌, ◌∙◌, ℕ, zero, suc, ◌+◌, ◌-◌, ◌<◌, ◌≤◌, List, [], ◌∷◌, ap, All, length, map, Option, refl, sym, subst, arith, slice_index_or}
+use Rattle.std.proofs.lemmas.List.{get_or-map}
 use Rattle.std.proofs.lemmas.List.Elements.{AllZip-get_or, length_all_zip}
-use Rattle.std.specs.List.{AllZip, fold}
+use Rattle.std.specs.List.{AllZip, fold, insert, remove}
 use Rattle.command_groups.proofs.LentChains.{chains_consult}
-use Rattle.cache_command.specs.Caching.{IsGetAmong, listed_times}
+use Rattle.cache_command.specs.Caching.{IsGetAmong}
 use Rattle.command_groups.specs.Chains.{IsChainGiven, chain_groups}
-use Rattle.cache_command.specs.Filling.{AsksListings}
+use Rattle.cache_command.specs.Filling.{AsksListings, each_stores}
 use Rattle.caibx_codec.specs.Listing.{Listing}
 use Rattle.chunk_store.specs.declared.store.Store.{Ghosts as StoreWords}
 use Rattle.command_groups.proofs.Asked.{groups_asked, groups_turn_dialed}
-use Rattle.command_groups.proofs.Given.{group_given_earlier}
+use Rattle.chunk_dealing.proofs.Owners.{number_at}
+use Rattle.chunk_dealing.specs.Dealing.{ByNumber}
+use Rattle.command_groups.proofs.Given.{group_given_earlier, group_given_longer}
 use Rattle.command_groups.proofs.Stand.{folders_still, fresh_tries, groups_stand_still, groups_try_still}
 use Rattle.command_groups.proofs.Words.{group_words}
 use Rattle.command_groups.specs.Asking.{GroupsAsked, WorkersGroupsDialed, with_retries}
@@ -27,6 +30,29 @@ use Rattle.dsy_base.specs.Links.{DialState, Traffic}
 use Rattle.dsy_base.specs.declared.look.Look.{Ghosts as LookWords}
 use Rattle.store_chain.specs.Chains.{Chained}
 use Rattle.store_group.specs.Groups.{Grouped}
+
+-- what holds of the stores of chains, one after the other, holds of them all
+pub zip_stores : {S : Type 0} (R : List S → List S → Type 0) (cs ds : List (Chained S)) → length cs ≡ length ds → ((n : ℕ) (x : Chained S) → n < length cs → R (slice_index_or cs n x).stores (slice_index_or ds n x).stores) → AllZip R (each_stores cs) (each_stores ds)
+zip_stores R [] [] many each = tt
+zip_stores R [] (d ∷ ds) many each = absurd (omega (arith, many))
+zip_stores R (c ∷ cs) [] many each = absurd (omega (arith, many))
+zip_stores R (c ∷ cs) (d ∷ ds) many each = (each 0 c (omega arith), zip_stores R cs ds (omega (arith, many)) (λ n x less. each (suc n) x (omega (arith, less))))
+
+-- the stores of a further worker, of whom the first has number 1
+pub their_stores : {S : Type 0} (first : List S) (xs : List (Chained S)) (worker : ℕ) (x : Chained S) → 1 ≤ worker → worker - 1 < length xs → x ≡ slice_index_or xs (worker - 1) x → slice_index_or (first ∷ each_stores xs) worker [] ≡ x.stores
+their_stores first xs zero x some inside is = absurd (omega (arith, some))
+their_stores first xs (suc n) x some inside is =
+    let same : suc n - 1 ≡ n = omega arith in
+    get_or-map (λ c. c.stores) xs n x [] (omega (arith, inside)) ∙ ap (λ c. c.stores) (sym (subst (λ (m : ℕ). x ≡ slice_index_or xs m x) same is))
+
+-- one was taken out, and put back where it stood as what f can't tell from it
+pub put_back : {X Y : Type 0} (f : X → Y) (xs taken back : List X) (n : ℕ) (x y : X) → n < length xs → x ≡ slice_index_or xs n x → taken ≡ remove xs n → back ≡ insert taken n y → f y ≡ f x → map f back ≡ map f xs
+put_back f xs taken back n x y less is taken_is back_is same =
+    ap (map f) (back_is ∙ ap (λ ys. insert ys n y) taken_is) ∙ go xs n less is where
+      go : (xs : List _) (n : ℕ) → n < length xs → x ≡ slice_index_or xs n x → map f (insert (remove xs n) n y) ≡ map f xs
+      go [] n less is = absurd (omega (arith, less))
+      go (z ∷ xs) zero less is = ap (λ w. w ∷ map f xs) (same ∙ ap f is)
+      go (z ∷ xs) (suc n) less is = ap (λ ws. f z ∷ ws) (go xs n (omega (arith, less)) is)
 
 module _ {L D K : Type 0} (look : LookWords L) (state : D → DialState) where
   abbrev Words : StoreWords (Grouped (AnyStore L D K))
@@ -52,24 +78,28 @@ module _ {L D K : Type 0} (look : LookWords L) (state : D → DialState) where
   pub chain_files : (ls : List Listing) (c d : Chained (Grouped (AnyStore L D K))) → AsksListings Words ls c d → map (files_in look.files) d.stores ≡ map (files_in look.files) c.stores
   chain_files ls c d h = folders_still look.place look.files state (IsGetAmong ls) c.stores d.stores (chain_stands ls c d h) h.keeps.files h.keeps.sends
 
+  abbrev Few : (List ℕ → ℕ) → Chained (Grouped (AnyStore L D K)) → Chained (Grouped (AnyStore L D K)) → Type 0
+  Few times c d = AllZip (λ a b. (q : List ℕ) → Words.asked b q ≤ Words.asked a q + times q) c.stores d.stores
+
   -- the connections of one
-  pub chain_dialed : (ls : List Listing) (names : List (List Location)) (again : ℕ) (c d : Chained (Grouped (AnyStore L D K))) (old new : Option (List Traffic)) → AsksListings Words ls c d → All (AreUnused state) c.stores → AllFresh again c → chain_groups look c ≡ names → new ≡ fold (with_group state) old d.stores
-      → GroupsAsked again (listed_times ls) (λ id. 0) (IsGetAmong ls) names old new
-  chain_dialed ls names again c d old new h unused fresh at ended =
+  pub chain_dialed : (ls : List Listing) (times : List ℕ → ℕ) (names : List (List Location)) (again : ℕ) (c d : Chained (Grouped (AnyStore L D K))) (old new : Option (List Traffic)) → AsksListings Words ls c d → Few times c d → All (AreUnused state) c.stores → AllFresh again c → chain_groups look c ≡ names → new ≡ fold (with_group state) old d.stores
+      → GroupsAsked again times (λ id. 0) (IsGetAmong ls) names old new
+  chain_dialed ls times names again c d old new h few unused fresh at ended =
       let stands = chain_stands ls c d h in
-      groups_asked look.place state look.files again (listed_times ls) (λ id. 0) (IsGetAmong ls) c.stores d.stores names old new unused (chain_tries ls again c d h fresh) stands
-      h.gets (none_more Words.queried c.stores d.stores h.heads) h.keeps.sends (stands ∙ at) ended
+      groups_asked look.place state look.files again times (λ id. 0) (IsGetAmong ls) c.stores d.stores names old new unused (chain_tries ls again c d h fresh) stands
+      few (none_more Words.queried c.stores d.stores h.heads) h.keeps.sends (stands ∙ at) ended
 
   -- those of all: the further workers', and then the first one's
-  pub all_dialed : (ls : List Listing) (names : List (List Location)) (again : ℕ) (c d : Chained (Grouped (AnyStore L D K))) (cs ds : List (Chained (Grouped (AnyStore L D K)))) (w u : Storage) (new : Option (List Traffic)) → AsksListings Words ls c d → AllZip (AsksListings Words ls) cs ds
+  pub all_dialed : (ls : List Listing) (shares : ℕ → List ℕ → ℕ) (names : List (List Location)) (again : ℕ) (c d : Chained (Grouped (AnyStore L D K))) (cs ds : List (Chained (Grouped (AnyStore L D K)))) (w u : Storage) (new : Option (List Traffic)) → AsksListings Words ls c d → AllZip (AsksListings Words ls) cs ds → ByNumber (λ k. Few (shares k)) 0 (c ∷ cs) (d ∷ ds)
       → All (λ x. All (AreUnused state) x.stores) (c ∷ cs) → All (AllFresh again) (c ∷ cs) → chain_groups look c ≡ names → All (λ x. chain_groups look x ≡ names) cs → GivenInTurn (IsChainGiven look state) ds w u → new ≡ fold (with_group state) u.dial.ended d.stores
-      → WorkersGroupsDialed (λ n. AsksOnly (with_retries again (listed_times ls)) (with_retries again (λ id. 0)) (IsGetAmong ls)) (λ n. Asks (with_retries again (listed_times ls)) (with_retries again (λ id. 0))) (1 + length ds) names w.dial.ended new
-  all_dialed ls names again c d cs ds w u new h zip unused fresh at all turn ended =
-      groups_turn_dialed (IsChainGiven look state) (λ n. AsksOnly (with_retries again (listed_times ls)) (with_retries again (λ id. 0)) (IsGetAmong ls)) (λ n. Asks (with_retries again (listed_times ls)) (with_retries again (λ id. 0))) names 1 ds w u new turn
+      → WorkersGroupsDialed (λ n. AsksOnly (with_retries again (shares n)) (with_retries again (λ id. 0)) (IsGetAmong ls)) (λ n. Asks (with_retries again (shares n)) (with_retries again (λ id. 0))) (1 + length ds) names w.dial.ended new
+  all_dialed ls shares names again c d cs ds w u new h zip few unused fresh at all turn ended =
+      groups_turn_dialed (IsChainGiven look state) (λ n. AsksOnly (with_retries again (shares n)) (with_retries again (λ id. 0)) (IsGetAmong ls)) (λ n. Asks (with_retries again (shares n)) (with_retries again (λ id. 0))) names 1 ds w u new turn
       (λ i x lt a b is.
       let inside : i < length cs = omega (arith, lt, length_all_zip (AsksListings Words ls) cs ds zip) in
-      chain_dialed ls names again (slice_index_or cs i x) (slice_index_or ds i x) a.dial.ended b.dial.ended (AllZip-get_or (AsksListings Words ls) cs ds i x x zip inside) (unused (suc i) x (omega (arith, inside))) (fresh (suc i) x (omega (arith, inside))) (all i x inside) is.ended)
-      (new, chain_dialed ls names again c d u.dial.ended new h (unused 0 c (omega arith)) (fresh 0 c (omega arith)) at ended, refl)
+      chain_dialed ls (shares (1 + i)) names again (slice_index_or cs i x) (slice_index_or ds i x) a.dial.ended b.dial.ended (AllZip-get_or (AsksListings Words ls) cs ds i x x zip inside) (number_at (λ k. Few (shares k)) 1 cs ds i x x few.1 inside)
+      (unused (suc i) x (omega (arith, inside))) (fresh (suc i) x (omega (arith, inside))) (all i x inside) is.ended)
+      (new, chain_dialed ls (shares 0) names again c d u.dial.ended new h few.0 (unused 0 c (omega arith)) (fresh 0 c (omega arith)) at ended, refl)
 
   -- ---- they were consulted
 
@@ -83,3 +113,23 @@ module _ {L D K : Type 0} (look : LookWords L) (state : D → DialState) where
   all_given names ds xs w u v all turn last given =
       let before = chains_consult look state names ds w u all turn in
       λ n g lt. group_given_earlier look.place look.faults state w u v before.0.disk.folder_counts before.0.dial last.0.dial (slice_index_or xs n g) (given n g lt)
+
+  -- what one of them has counted was given back
+  pub chain_given : (names : List (List Location)) (ds : List (Chained (Grouped (AnyStore L D K)))) (w u : Storage) → All (λ x. chain_groups look x ≡ names) ds → GivenInTurn (IsChainGiven look state) ds w u → (n : ℕ) (x : Chained (Grouped (AnyStore L D K))) → n < length ds
+      → All (IsGroupGiven look.place look.faults state w u) (slice_index_or ds n x).stores
+  chain_given names [] w u all turn n x less = absurd (omega (arith, less))
+  chain_given names (d ∷ ds) w u all turn zero x less =
+      let rest = chains_consult look state names ds w turn.0 (λ m y lt. all (suc m) y (omega (arith, lt))) turn.1 in
+      λ m g lt. group_given_earlier look.place look.faults state w turn.0 u rest.0.disk.folder_counts rest.0.dial turn.2.consults.0.dial (slice_index_or d.stores m g) (turn.2.groups m g lt)
+  chain_given names (d ∷ ds) w u all turn (suc n) x less =
+      let before = chain_given names ds w turn.0 (λ m y lt. all (suc m) y (omega (arith, lt))) turn.1 n x (omega (arith, less)) in
+      let rest = chains_consult look state names ds w turn.0 (λ m y lt. all (suc m) y (omega (arith, lt))) turn.1 in
+      λ m g lt. group_given_longer look.place look.faults state w turn.0 u turn.2.consults.0.disk.folder_counts rest.0.dial turn.2.consults.0.dial (slice_index_or (slice_index_or ds n x).stores m g) (before m g lt)
+
+  -- also once the first worker's were given back
+  pub chain_given_then : (names : List (List Location)) (ds : List (Chained (Grouped (AnyStore L D K)))) (w u v : Storage) → All (λ x. chain_groups look x ≡ names) ds → GivenInTurn (IsChainGiven look state) ds w u → ConsultsStores (stores_of names) u v → (n : ℕ) (x : Chained (Grouped (AnyStore L D K))) → n < length ds
+      → All (IsGroupGiven look.place look.faults state w v) (slice_index_or ds n x).stores
+  chain_given_then names ds w u v all turn last n x less =
+      let one = chain_given names ds w u all turn n x less in
+      let before = chains_consult look state names ds w u all turn in
+      λ m g lt. group_given_longer look.place look.faults state w u v last.0.disk.folder_counts before.0.dial last.0.dial (slice_index_or (slice_index_or ds n x).stores m g) (one m g lt)

@@ -1,7 +1,7 @@
 -- `cache -s STORE.. -e RETRIES -c CACHE INDEX..`, over groups of stores. A name is its bytes; files are a folder's,
 -- where they are told.
 use Rattle.std.specs.Prelude.{◌≡◌, ◌⊎◌, ◌&&◌, ℕ, ◌+◌, ◌<◌, ◌≤◌, List, [], ◌∷◌, length, map, max}
-use Rattle.std.specs.Prelude.{Option, Some, IfSome, IfErr, IsSomeAnd, IsTrue, is_some, Result, Ok, Err}
+use Rattle.std.specs.Prelude.{Option, Some, IfSome, IfErr, IsSomeAnd, IsTrue, is_some, Result, Ok, Err, slice_index_or}
 use Rattle.std.specs.List.{AllZip, Any}
 use Rattle.std.specs.Option.{option_map}
 use Rattle.cache_store.specs.Giving.{GiveOneSize, SomeGives}
@@ -39,6 +39,7 @@ use Rattle.store_chain.specs.Refusals.{Refuses}
 use Rattle.store_chain.specs.declared.refused.Refused.{Refused}
 use Rattle.store_chain.specs.declared.refused.Refused.TheVariants as refused
 use Rattle.store_chain.specs.declared.query.Query.{Query}
+use Rattle.chunk_dealing.specs.Dealing.{sum_to}
 use Rattle.cache_fill.specs.Filling.{FillsBy, GivesEntry, HoldsEntry, ListsSize, entry_want, filled_to}
 use Rattle.cache_fill.specs.declared.fill.FillFault.{FillFault}
 use Rattle.cache_fill.specs.declared.fill.FillFault.TheVariants as faults
@@ -63,14 +64,15 @@ of_command e w v groups cache = record {
   unfailed = DiskQuiet w.disk v.disk;
 }
 
--- over calls that led from the stores `before` to those `after`, and the count of the cache's faults from m to n
-abbrev pub of_calls : {S : Type 0} → StoreWords S → List S → List S → ℕ → ℕ → Evidence
-of_calls {S} store before after m n = record {
-  holds = λ fs. map store.folder before ≡ map Some fs;
-  refused = λ c r. (asked : List S) × (length asked ≡ length after)
-      × Refuses store.said store.faults store.may_lack_memory c asked after r;
+-- over calls that led from the stores of all workers, `before`, to those `after`, and the count of the cache's faults
+-- from m to n. The first worker's stores are first. Those of this worker refused a chunk, where some did
+abbrev pub of_calls : {S : Type 0} → StoreWords S → List (List S) → List (List S) → ℕ → ℕ → ℕ → Evidence
+of_calls {S} store before after worker m n = record {
+  holds = λ fs. map store.folder (slice_index_or before 0 []) ≡ map Some fs;
+  refused = λ c r. (asked : List S) × (length asked ≡ length (slice_index_or after worker []))
+      × Refuses store.said store.faults store.may_lack_memory c asked (slice_index_or after worker []) r;
   cache_failed = Rose m n;
-  unfailed = Quiet m n × EachQuiet (map store.faults before) (map store.faults after);
+  unfailed = Quiet m n × AllZip (λ a b. EachQuiet (map store.faults a) (map store.faults b)) before after;
 }
 
 -- the first k listed chunks are among the files
@@ -186,8 +188,9 @@ IsGetAmong [] a = ⊥
 IsGetAmong (l ∷ ls) a = IsListedGet l a ⊎ IsGetAmong ls a
 
 -- the URLs among the indexes were asked for in order. Up to `most` workers, or one, asked the servers of chunks. Each
--- asked each server for the chunk of an id at most once for each entry that lists it, and e times more where it failed,
--- and never whether it has one. Nothing else was sent to a server that is a group by itself but fronts of such requests
+-- has a share, and all of them together ask for the chunk of an id at most once for each entry that lists it: a worker
+-- asked each server for it at most as often as its share says, and e times more where it failed, and never whether it
+-- has one. Nothing else was sent to a server that is a group by itself but fronts of such requests
 pub record GetsListed (w v : Storage) (e most : ℕ) (indexes : List (List ℕ)) (groups : List (List Location))
     : Type 0 where
   pub listings : List Listing
@@ -198,9 +201,11 @@ pub record GetsListed (w v : Storage) (e most : ℕ) (indexes : List (List ℕ))
   pub workers : ℕ
   pub some : 1 ≤ workers
   pub few : workers ≤ max 1 most
+  pub shares : ℕ → List ℕ → ℕ
+  pub together : (id : List ℕ) → sum_to (λ n. shares n id) workers ≤ listed_times listings id
   pub gets : WorkersGroupsDialed
-      (λ n. AsksOnly (with_retries e (listed_times listings)) (with_retries e (λ id. 0)) (IsGetAmong listings))
-      (λ n. Asks (with_retries e (listed_times listings)) (with_retries e (λ id. 0))) workers groups ended v.dial.ended
+      (λ n. AsksOnly (with_retries e (shares n)) (with_retries e (λ id. 0)) (IsGetAmong listings))
+      (λ n. Asks (with_retries e (shares n)) (with_retries e (λ id. 0))) workers groups ended v.dial.ended
 
 -- ---- the command
 

@@ -21,6 +21,10 @@ use Rattle.dsy_base.specs.declared.look.Look.{Ghosts as LookWords}
 use Rattle.store_chain.specs.Chains.{Chained, KeepsStores}
 use Rattle.store_group.specs.Groups.{Grouped}
 
+-- the stores of each chain
+abbrev pub each_stores : {S : Type 0} → List (Chained S) → List (List S)
+each_stores cs = map (λ c. c.stores) cs
+
 module _ {S : Type 0} (store : StoreWords S) where
   -- the further workers' stores hold what the first worker's hold
   pub record HoldAlike (first : Chained S) (further : List (Chained S)) : Type 0 where
@@ -44,8 +48,8 @@ pub record JustOpened {L D K : Type 0} (look : LookWords L) (state : D → DialS
   pub given : All (CanGiveChain look d) (first ∷ further)
   pub located : All (λ c. chain_groups look c ≡ chain_groups look first) further
   pub alike : HoldAlike store first further
-  pub found : IfSome (with_cache (Some s) d).folders (λ m.
-      map (files_in look.files) first.stores ≡ map (map (location_files m)) (chain_groups look first))
+  pub found : All (λ c. IfSome (with_cache (Some s) d).folders (λ m.
+      map (files_in look.files) c.stores ≡ map (map (location_files m)) (chain_groups look c))) (first ∷ further)
   pub cache_named : s.place ≡ cache
   pub cache_known : IsSome (d.folder_counts cache)
   pub cache_fresh : s.faults ≡ 0

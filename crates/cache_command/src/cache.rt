@@ -3,8 +3,10 @@
 
 ghost use Rattle.std.specs.Prelude.{◌≡◌, ◌⊎◌, ℕ, List, ◌+◌, ◌-◌, ◌≤◌, ◌∷◌, length, All, IfOk, IfErr, Ok, Err, Some};
 ghost use Rattle.std.specs.List.{AllZip};
-ghost use Rattle.cache_command.specs.Caching.{CacheEnds, FillsEach, FrontSpelled, IndexesFilled, of_calls};
-ghost use Rattle.cache_command.specs.Filling.{AreHad, AsksListings, HoldAlike, JustOpened};
+ghost use Rattle.cache_command.specs.Caching.{CacheEnds, FillsEach, FrontSpelled, IndexesFilled, listed_times};
+ghost use Rattle.cache_command.specs.Caching.{of_calls};
+ghost use Rattle.cache_command.specs.Filling.{AreHad, AsksListings, HoldAlike, JustOpened, each_stores};
+ghost use Rattle.chunk_dealing.specs.Dealing.{AsksInShares};
 ghost use Rattle.cache_store.specs.Shelves.{shelf_of};
 ghost use Rattle.caibx_codec.specs.Listing.{Listing};
 ghost use Rattle.command_groups.specs.Chains.{chain_groups};
@@ -16,11 +18,11 @@ ghost use Rattle.command_worlds.specs.Worlds.{world};
 ghost use Rattle.dsy_base.specs.Disk.{Disk, Output};
 
 use crate::filling::{Filling, fill_by, filling_of};
+use crate::naming::numbered_by;
 use chunk_store::id::DigestKind;
 use chunk_store::store::Store;
 use command_groups::chains::{close_chains, drop_chains, open_chains};
 use command_groups::groups::{close_groups, drop_groups, open_groups};
-use command_groups::numbers::numbered;
 use command_indexes::load::load_index;
 use command_outcome::outcome::Outcome;
 use command_steps::any_store::AnyStore;
@@ -60,7 +62,8 @@ fn fill_each<R: Threads + Sync, F: Files, D: Dial, S: Store + Send>(
 ) -> (Filling<F::Folder, S>, Result<(), Outcome>)
     requires alike { HoldAlike S.Store filling.cached.chain filling.further.items }
     requires named { All NamesIndex indexes.now }
-    ensures filled { FillsEach (of_calls S.Store filling.cached.chain.stores result.0.cached.chain.stores
+    ensures filled { FillsEach (of_calls S.Store (each_stores (filling.cached.chain ∷ filling.further.items))
+        (each_stores (result.0.cached.chain ∷ result.0.further.items)) result.0.refuser
         (F.Folder.faults filling.cached.shelf.folder) (F.Folder.faults result.0.cached.shelf.folder))
         (storage (F.disk files.old) (D.state dial.old)) (storage (F.disk files.new) (D.state dial.new)) indexes.now
         (F.Folder.files filling.cached.shelf.folder) (F.Folder.files result.0.cached.shelf.folder) result.1 }
@@ -70,7 +73,11 @@ fn fill_each<R: Threads + Sync, F: Files, D: Dial, S: Store + Send>(
         × FrontSpelled (storage (F.disk files.old) (D.state dial.old)) (storage (F.disk files.new) (D.state dial.new))
         indexes.now ls
         × AllZip (AsksListings S.Store ls)
+        (filling.cached.chain ∷ filling.further.items) (result.0.cached.chain ∷ result.0.further.items)
+        × AsksInShares S.asked (listed_times ls)
         (filling.cached.chain ∷ filling.further.items) (result.0.cached.chain ∷ result.0.further.items) }
+    ensures refuser { filling.refuser ≤ length filling.further.items →
+        result.0.refuser ≤ length result.0.further.items }
     ensures place { F.Folder.place result.0.cached.shelf.folder ≡ F.Folder.place filling.cached.shelf.folder }
     ensures never_falls { F.Folder.faults filling.cached.shelf.folder
         ≤ F.Folder.faults result.0.cached.shelf.folder }
@@ -112,6 +119,7 @@ fn reach<F: ImageFiles, D: Dial>(
         (shelf_of F.Folder.files F.Folder.place F.Folder.faults f.cached.shelf) f.cached.chain f.further.items) }
     ensures located { IfOk result (λ f. chain_groups F.Look.Look f.cached.chain ≡ groups.now) }
     ensures few { IfOk result (λ f. length f.further.items ≤ workers - 1) }
+    ensures refuser { IfOk result (λ f. f.refuser ≡ 0) }
     ensures err { IfErr result (λ o. SourcesOpened (stores_of groups.now) (F.disk files.old) (Err o) (F.disk files.new)
         ⊎ ((m : Disk) × SourcesOpened (stores_of groups.now) (F.disk files.old) (Ok tt) m
         × CacheOpened (stores_of groups.now) (Some cache.now) m (Err o) (F.disk files.new))) }
@@ -149,6 +157,7 @@ where
         (F.disk files.old) words.now.cache
         (shelf_of F.Folder.files F.Folder.place F.Folder.faults filling.cached.shelf)
         filling.cached.chain filling.further.items }
+    requires refuser { filling.refuser ≡ 0 }
     requires located { chain_groups F.Look.Look filling.cached.chain ≡ words.now.stores }
     requires named { All NamesIndex words.now.indexes }
     ensures filled { IndexesFilled words.now.stores words.now.retries words.now.cache
@@ -158,10 +167,15 @@ where
 {
     let indexes = words.indexes.as_slice();
     let (filling, filled) = fill_each(rt, alloc, files, dial, indexes, filling);
-    let Filling { cached, further } = filling;
+    let Filling {
+        cached,
+        mut further,
+        refuser,
+    } = filling;
     let (shelf, chain) = cached.into_parts();
     let groups = chain.into_stores();
-    let answer = numbered(words.stores.as_slice(), groups.as_slice(), filled);
+    let named = words.stores.as_slice();
+    let answer = numbered_by(named, groups.as_slice(), &mut further, refuser, filled);
     give_shelf(files, words.cache.as_str(), shelf);
     close_chains(files, dial, further);
     close_groups(files, dial, groups);

@@ -2,8 +2,9 @@
 
 ghost use Rattle.std.specs.Prelude.{◌≡◌, ◌≤◌, ◌∷◌, [], All, None, Result, length, map, vec_capacity};
 ghost use Rattle.std.specs.List.{AllZip};
-ghost use Rattle.cache_command.specs.Caching.{IndexFilled, answer_of_fill, of_calls};
-ghost use Rattle.cache_command.specs.Filling.{AsksListings, HoldAlike};
+ghost use Rattle.cache_command.specs.Caching.{IndexFilled, answer_of_fill, listed_times, of_calls};
+ghost use Rattle.cache_command.specs.Filling.{AsksListings, HoldAlike, each_stores};
+ghost use Rattle.chunk_dealing.specs.Dealing.{AsksInShares};
 ghost use Rattle.cache_fill.specs.declared.fill.FillFault.{FillFault};
 
 use cache_fill::fill::{FillFault, fill};
@@ -19,11 +20,12 @@ use std::thread::Threads;
 use store_chain::chain::Chain;
 
 /// A cache, which asks the stores of the first worker, and the chains of the further workers. Cache and chains are made
-/// anew for each index, of its kind.
+/// anew for each index, of its kind. The stores of worker `refuser` refused a chunk, where some did: the first is 0.
 #[derive(Drop)]
 pub(crate) struct Filling<W: Folder, S: Store> {
     pub cached: Cached<W, S>,
     pub further: Vec<Chain<S>>,
+    pub refuser: usize,
 }
 
 /// Before these stores, which are the first worker's, stands the cache.
@@ -36,11 +38,13 @@ pub(crate) fn filling_of<W: Folder, S: Store>(
     ensures stores { result.cached.chain.stores ≡ stores.items }
     ensures shelf { result.cached.shelf ≡ shelf }
     ensures further { result.further ≡ further }
+    ensures refuser { result.refuser ≡ 0 }
 {
     let chain = Chain::with_kind(shelf.kind(), stores);
     Filling {
         cached: Cached::new(shelf, chain),
         further,
+        refuser: 0,
     }
 }
 
@@ -72,6 +76,7 @@ fn remake<W: Folder, S: Store>(kind: DigestKind, filling: Filling<W, S>) -> Fill
     let Filling {
         cached,
         mut further,
+        ..
     } = filling;
     let (shelf, chain) = cached.into_parts();
     remake_chains(kind, &mut further);
@@ -80,6 +85,7 @@ fn remake<W: Folder, S: Store>(kind: DigestKind, filling: Filling<W, S>) -> Fill
     Filling {
         cached: Cached::new(shelf, chain),
         further,
+        refuser: 0,
     }
 }
 
@@ -119,10 +125,14 @@ pub(crate) fn fill_by<R: Threads + Sync, W: Folder, S: Store + Send>(
     requires unnamed { (W.pairs ≡ None) × (W.stores ≡ None) }
     requires alike { HoldAlike S.Store filling.cached.chain filling.further.items }
     ensures filled { (r : Result Unit FillFault) × (result.1 ≡ answer_of_fill r)
-        × IndexFilled (of_calls S.Store filling.cached.chain.stores result.0.cached.chain.stores
+        × IndexFilled (of_calls S.Store (each_stores (filling.cached.chain ∷ filling.further.items))
+        (each_stores (result.0.cached.chain ∷ result.0.further.items)) result.0.refuser
         (W.faults filling.cached.shelf.folder) (W.faults result.0.cached.shelf.folder)) index.now
         (W.files filling.cached.shelf.folder) (W.files result.0.cached.shelf.folder) r }
+    ensures refuser { result.0.refuser ≤ length result.0.further.items }
     ensures asks { AllZip (AsksListings S.Store (index.now ∷ []))
+        (filling.cached.chain ∷ filling.further.items) (result.0.cached.chain ∷ result.0.further.items) }
+    ensures shares { AsksInShares S.asked (listed_times (index.now ∷ []))
         (filling.cached.chain ∷ filling.further.items) (result.0.cached.chain ∷ result.0.further.items) }
     ensures alike { HoldAlike S.Store result.0.cached.chain result.0.further.items }
     ensures place { W.place result.0.cached.shelf.folder ≡ W.place filling.cached.shelf.folder }
@@ -130,5 +140,6 @@ pub(crate) fn fill_by<R: Threads + Sync, W: Folder, S: Store + Send>(
 {
     let mut filling = remake(index.kind(), filling);
     let filled = fill(rt, alloc, index, &mut filling.cached, &mut filling.further);
-    (filling, answer_of(filled))
+    filling.refuser = filled.worker;
+    (filling, answer_of(filled.result))
 }

@@ -3,3 +3,4 @@
 
 pub mod cache;
 mod filling;
+mod naming;

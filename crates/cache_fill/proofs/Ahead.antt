@@ -1,5 +1,5 @@
 -- A chunk that was read ahead: what it says of the stores, and what the shelf gives once it was added.
-use Rattle.std.proofs.Common.{◌≡◌, ℕ, ◌<◌, List, take, map, All, Contains, Option, Some, None, IfSome, Result, Ok, Err, IfOk, ◌≤◌, refl, sym, subst, ap, ◌∙◌, inr}
+use Rattle.std.proofs.Common.{◌≡◌, ℕ, ◌<◌, List, take, map, All, Bor, Contains, Option, Some, None, IfSome, Result, Ok, Err, IfOk, ◌≤◌, refl, sym, subst, ap, ◌∙◌, inr}
 use Rattle.std.proofs.lemmas.Map.{update_same}
 use Rattle.std.proofs.lemmas.Slice.Eq.{bytes_eq-Decides}
 use Rattle.std.specs.Option.{option_map}
@@ -8,7 +8,7 @@ use Rattle.std.specs.Str.{bytes_eq}
 use Rattle.cache_fill.proofs.EntryCalls.{none_added, temporary_same, want_is}
 use Rattle.cache_fill.proofs.Holding.{given_by, of_wanted, wanted_of}
 use Rattle.cache_fill.specs.Fetching.{SomeHoldsEntry}
-use Rattle.cache_fill.specs.Filling.{EntryUnfound, GivesEntry, IsGivenBy, MayFillCache, entry_want}
+use Rattle.cache_fill.specs.Filling.{EntryUnfound, GivesEntry, IsGivenBy, LosesAhead, MayFillCache, entry_want}
 use Rattle.cache_store.proofs.Fetched.{unfound_on}
 use Rattle.cache_store.proofs.Stocked.{stocks_looked, stocks_on, stocks_weaker}
 use Rattle.cache_store.specs.Shelves.{GivesStill, KeepsShelf, Others, Shelf, Stocks, held_on}
@@ -19,6 +19,7 @@ use Rattle.chunk_store.specs.Giving.{IsChunk}
 use Rattle.chunk_store.specs.Paths.{path_of}
 use Rattle.chunk_store.specs.declared.id.ChunkId.{ChunkId}
 use Rattle.chunk_store.specs.declared.id.DigestKind.{DigestKind}
+use Rattle.chunk_store.specs.declared.store.Store.{Ghosts as StoreWords}
 use Rattle.dsy_base.specs.Counts.{Rose}
 use Rattle.dir_store.specs.Puts.{LeavesTemporary}
 use Rattle.dsy_base.specs.Folders.{put_in, temporary_of}
@@ -26,6 +27,7 @@ use Rattle.dsy_base.specs.Maps.{Map, at_name}
 use Rattle.image_slices.proofs.Rooms.{empty_ahead}
 use Rattle.image_slices.specs.Ahead.{HasSlice, IsAhead, IsListedSlice, TellsSlice}
 use Rattle.image_slices.specs.declared.ahead.Ahead.{Ahead}
+use Rattle.store_chain.specs.Chains.{Chained}
 use Rattle.store_chain.specs.Giving.{Gives, SomeHolds}
 use Rattle.store_chain.specs.Queries.{FillsQuery, query_of}
 use Rattle.store_chain.specs.declared.query.Query.{Query}
@@ -90,6 +92,14 @@ module _ (l : Listing) (i : ℕ) (inside : i < count_of l) (id : ChunkId) (is_id
         chunk_is,
       )
 
+    -- the bytes weren't added to a shelf that didn't give the chunk, or failed
+    pub ahead_loses : (store : StoreWords S) → store.holds ≡ holds → (s t : Shelf) (c : Chained S) → c.stores ≡ stores → EntryUnfound l i s t → LosesAhead store l i s t c c
+    ahead_loses store holds_is s t c stores_is unfound = record {
+      unfound = unfound;
+      unasked = refl;
+      gives = λ maps told. given_by holds l stores maps (ap (λ (xs : List S). map holds xs) (sym stores_is) ∙ ap (λ (f : S → Option (Map (List ℕ))). map f c.stores) (sym holds_is) ∙ told) (id_of l i) b (size_of l i) read.is chunk_is;
+    }
+
     -- and some store gave it
     pub ahead_given : (m : Map (List ℕ)) (maps : List (Map (List ℕ))) → map holds stores ≡ map Some maps → IsGivenBy l m maps i
     ahead_given m maps told = inr (given_by holds l stores maps told (id_of l i) b (size_of l i) read.is chunk_is)
@@ -107,6 +117,12 @@ fetched_slice holds l i id is_id kind size room n out b c d same sized front fil
 -- a slice of which stores say so is one of which those say so that hold the same
 pub slice_same : {S : Type 0} (holds : S → Option (Map (List ℕ))) (l : Listing) (i : ℕ) (b : List ℕ) (c d : List S) → map holds d ≡ map holds c → IsListedSlice l (SomeHoldsEntry holds l c) i b → IsListedSlice l (SomeHoldsEntry holds l d) i b
 slice_same holds l i b c d same slice = record { size = slice.size; named = slice.named; is = λ maps told. slice.is maps (sym same ∙ told) }
+
+-- what was found in the rooms, if anything
+pub slices_said : {S : Type 0} (holds : S → Option (Map (List ℕ))) (l : Listing) (rooms : List Ahead) (i : ℕ) (read : Option (Bor (List ℕ))) (c d : List S) → map holds d ≡ map holds c → All (IsAhead l (SomeHoldsEntry holds l c)) rooms
+    → IfSome read (λ b. (a : Ahead) × Contains rooms a × HasSlice l a i b.now) → IfSome read (λ b. IsListedSlice l (SomeHoldsEntry holds l d) i b.now)
+slices_said holds l rooms i None c d same all has = tt
+slices_said holds l rooms i (Some b) c d same all has = slice_same holds l i b.now c d same (slice_said l (SomeHoldsEntry holds l c) rooms i b.now all has)
 
 -- a shelf that was looked at, and to which the bytes weren't added, has the chunks that it had
 pub kept_none : (id : List ℕ) (T : List ℕ → List ℕ → Type 0) (s mid t : Shelf) → ((x : Option (List ℕ)) (m : Map (List ℕ)) → chunks (at_name m (temporary_of (path_of id)) x) ≡ chunks m)

@@ -114,7 +114,7 @@ module _ {F S : Type 0} (files : F → Option (Map (List ℕ))) (place_of : F �
       call_failed is (inr h) =
           let Added : Kept → Type 0 = λ k. AddedTo id.0 b k s0 s1 in
           let added = subst Added is h.added.1 in
-          ((lost h, added.1), temporary_same id.0 s0.files s1.files still added.0)
+          ((inl (lost h), added.1), temporary_same id.0 s0.files s1.files still added.0)
 
       pub call_lacked : got.kept ≡ kept.Memory → Ends (entry_want l i id) (Ok got) → EntryFails store l i s0 s1 old.chain new.chain faults.Memory × (held_on s1 ≡ held_on s0)
       call_lacked is (inl h) = absurd (yes_memory (sym h.answer.1 ∙ is))

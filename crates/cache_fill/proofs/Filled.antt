@@ -1,6 +1,7 @@
 -- Filling a cache entry by entry: what the calls for the first entries have come to, and how a refusal ends them.
-use Rattle.std.proofs.Common.{◌≡◌, ◌⊎◌, ℕ, zero, suc, ◌+◌, ◌<◌, ◌≤◌, List, [], ◌∷◌, map, slice_index, Bool, Option, Some, None, IfSome, Ok, Err, refl, sym, subst, ap, ◌∙◌, inl, inr, arith, below_more}
+use Rattle.std.proofs.Common.{◌≡◌, ◌⊎◌, ℕ, zero, suc, ◌+◌, ◌<◌, ◌≤◌, List, [], ◌∷◌, length, map, slice_index, slice_index_or, All, Bool, Option, Some, None, IfSome, Result, Ok, Err, refl, sym, subst, ap, ◌∙◌, inl, inr, arith, below_more}
 use Rattle.std.specs.List.{AllZip}
+use Rattle.std.proofs.lemmas.List.Elements.{AllZip-get_or}
 use Rattle.cache_store.proofs.Stocked.{stocks_on, stocks_same, stocks_weaker}
 use Rattle.cache_store.specs.Giving.{SomeGives}
 use Rattle.cache_store.specs.Shelves.{Shelf, Stocks, held_on}
@@ -26,8 +27,8 @@ use Rattle.store_chain.specs.declared.refused.Refused.TheVariants as refused
 use Rattle.store_chain.specs.declared.query.Query.{Query}
 use Rattle.verify_tool.proofs.Asked.{each_then, each_weaker}
 use Rattle.cache_fill.proofs.Holding.{damaged_never, each_within, gave_entry, holds_more, holds_none, holds_still, missing_never, not_at_first, quiet_within, rose_never, takes_earlier, told_still}
-use Rattle.cache_fill.specs.Filling.{AsksEntries, AsksEntry, EntryFails, EntryUnfound, FetchesAhead, FillStops, FillUnfailed, FillsBy, FillsFirst, GivesEntry, HoldsTo, IsFirstLost, IsGetBefore, IsGivenBy, MayFillCache, RefusesEntry, SparesStores, entry_want, filled_to}
-use Rattle.cache_fill.specs.FillProgress.{FillAnswers, Filled, IsAside, Spared}
+use Rattle.cache_fill.specs.Filling.{AreQuiet, AsksEntries, AsksEntry, EntryFails, EntryUnfound, FetchesAhead, FillEnds, FillStops, FillUnfailed, FillsBy, FillsFirst, GivesEntry, HoldsTo, IsAside, IsFirstLost, IsGetBefore, IsGivenBy, MayFillCache, RefusedAhead, RefusesAhead, RefusesEntry, SparesStores, TurnAsks, entry_want, fill_fault_of, filled_to}
+use Rattle.cache_fill.specs.FillProgress.{FillAnswers, Filled, LeavesEntry, Spared}
 use Rattle.cache_fill.specs.declared.fill.FillFault.{FillFault}
 use Rattle.cache_fill.specs.declared.fill.FillFault.TheVariants as faults
 
@@ -98,17 +99,13 @@ fetched_none store l cs = all_zip_same (FetchesAhead store l) (λ c. record { as
 -- ---- from one entry to the next
 
 module _ {S : Type 0} (store : StoreWords S) (l : Listing) where
-  -- the stores weren't asked for the chunk of entry i, or once
-  abbrev pub TurnAsks : ℕ → Shelf → Shelf → Chained S → Chained S → Type 0
-  TurnAsks i s t c d = ((d ≡ c) × IsAside l i s t) ⊎ (EntryUnfound l i s t × AsksOnce store.asked store.queried (id_of l i) c d)
-
-  pub turn_of : (i : ℕ) (s t : Shelf) (c d : Chained S) → AsksEntry store l i s t c d → TurnAsks i s t c d
+  pub turn_of : (i : ℕ) (s t : Shelf) (c d : Chained S) → AsksEntry store l i s t c d → TurnAsks store l i s t c d
   turn_of i s t c d (inl same) = inl (same.0, inl same.1)
   turn_of i s t c d (inr once) = inr once
 
   -- entry i was seen to
   pub record Turns (i : ℕ) (s t : Shelf) (c d : Chained S) : Type 0 where
-    pub asks : TurnAsks i s t c d
+    pub asks : TurnAsks store l i s t c d
     pub stocks : Stocks (λ q b. (q ≡ id_of l i) × MayFillCache store.holds l c.stores q b) s t
     pub stores : KeepsStores store (λ a. a ≡ Get (id_of l i)) c.stores d.stores
 
@@ -249,8 +246,13 @@ module _ {S : Type 0} (store : StoreWords S) (l : Listing) where
     held_before : HoldsTo l i t
     held_before = holds_still store.holds l c0.stores i s t stocks_now before.holds_all
 
-    pub turn_stops : (fault : FillFault) → EntryFails store l i s t c d fault → AsksEntry store l i s t c d → Stocks (λ q b. ⊥) s t → FillStops store l fault s0 t c0 d
-    turn_stops fault fails asks kept = record {
+    kept_stocks : Stocks (λ q b. ⊥) s t → Stocks (λ q b. IsListedId l i q) s0 t
+    kept_stocks kept = stocks_on (λ q b. IsListedId l i q) s0 s t
+        (stocks_weaker (λ q b. IsListedId l i q × MayFillCache store.holds l c0.stores q b) (λ q b. IsListedId l i q) (λ q b h. h.0) s0 s before.stocks)
+        (stocks_weaker (λ q b. ⊥) (λ q b. IsListedId l i q) (λ q b none. absurd none) s t kept)
+
+    pub turn_stops : (fault : FillFault) → EntryFails store l i s t c d fault → Stocks (λ q b. ⊥) s t → FillStops store l fault s0 t c0 d
+    turn_stops fault fails kept = record {
       entry = i;
       listed = inside;
       shelf = s;
@@ -258,12 +260,10 @@ module _ {S : Type 0} (store : StoreWords S) (l : Listing) where
       before = filled_before;
       fails = fails;
       kept = kept;
-      asks = asks;
+      asks = turn.asks;
       stores = turn.stores;
       holds = held_before;
-      stocks = stocks_on (λ q b. IsListedId l i q) s0 s t
-          (stocks_weaker (λ q b. IsListedId l i q × MayFillCache store.holds l c0.stores q b) (λ q b. IsListedId l i q) (λ q b h. h.0) s0 s before.stocks)
-          (stocks_weaker (λ q b. ⊥) (λ q b. IsListedId l i q) (λ q b none. absurd none) s t kept);
+      stocks = kept_stocks kept;
     }
 
     pub turn_holds : (fault : FillFault) → EntryFails store l i s t c d fault → HoldsTo l (filled_to l (Err fault)) t
@@ -299,16 +299,76 @@ module _ {S : Type 0} (store : StoreWords S) (l : Listing) where
     turn_exactly faults.Memory h m maps nothing = tt
 
     -- what an answer says then
-    pub answers_stopped : (fault : FillFault) → EntryFails store l i s t c d fault → AsksEntry store l i s t c d → Stocks (λ q b. ⊥) s t → FillAnswers store l s0 t c0 d (Err fault)
-    answers_stopped fault fails asks kept = record {
+    pub answers_stopped : (fault : FillFault) → EntryFails store l i s t c d fault → Stocks (λ q b. ⊥) s t → FillAnswers store l s0 t c0 d [] [] 0 (Err fault)
+    answers_stopped fault fails kept = record {
       holds = turn_holds fault fails;
-      order = inr (turn_stops fault fails asks kept);
-      exactly = turn_exactly fault fails;
+      order = inl (refl, inr (turn_stops fault fails kept));
+      exactly = λ m maps nothing quiet. turn_exactly fault fails m maps nothing;
       asks = turn_asks_all;
       spared = turn_spares;
       stocks = turn_stocks;
       stores = turn_stores;
     }
+
+    -- ---- where the stores of a further worker refused it
+
+    module _ (unfound : EntryUnfound l i s t) (files : t.files ≡ s.files) (kept : Stocks (λ q b. ⊥) s t) (same : d ≡ c) (f0 f1 : List (Chained S)) (alike : All (λ x. map store.holds x.stores ≡ map store.holds c0.stores) f0) (n : ℕ) (inside_0 : n < length f0) (inside_1 : n < length f1) where
+      ahead_holds : (id : ChunkId) (r : Refused) → HoldsTo l (filled_to l (Err (fill_fault_of i id r))) t
+      ahead_holds id refused.Missing = held_before
+      ahead_holds id (refused.Damaged x y) = held_before
+      ahead_holds id (refused.StoreFault k) = holds_none l t
+      ahead_holds id refused.Memory = holds_none l t
+
+      lost_ahead : (m : Map (List ℕ)) (maps : List (Map (List ℕ))) → FillUnfailed store.holds store.faults l m maps s0 t c0.stores d.stores → (id : ChunkId) (r : Refused)
+          → RefusesAhead store l i id r (slice_index_or f0 n c0) (slice_index_or f1 n c0)
+          → (LacksAll (entry_want l i id) maps r → SomeGives (kind_of l) (id_of l i) (size_of l i) maps → ⊥)
+          → IsGivenBy l m maps i → ⊥
+      lost_ahead m maps nothing id r h never (inl first) =
+          not_at_first store.holds l c0.stores m maps nothing.told nothing.sizes i s0 s t inside nothing.held stocks_before unfound
+          (shelf_quiet m maps nothing) first
+      lost_ahead m maps nothing id r h never (inr some) = never (h.lacks maps (alike n c0 inside_0 ∙ nothing.told)) some
+
+      ahead_exactly : (id : ChunkId) (r : Refused) → RefusesAhead store l i id r (slice_index_or f0 n c0) (slice_index_or f1 n c0)
+          → (m : Map (List ℕ)) (maps : List (Map (List ℕ))) → FillUnfailed store.holds store.faults l m maps s0 t c0.stores d.stores → AreQuiet store.faults f0 f1 → FillsBy l m maps (Err (fill_fault_of i id r))
+      ahead_exactly id refused.Missing h m maps nothing quiet = first_lost m maps nothing i refl (lost_ahead m maps nothing id refused.Missing h (missing_never l i id h.id_is maps))
+      ahead_exactly id (refused.Damaged x y) h m maps nothing quiet = first_lost m maps nothing i refl (lost_ahead m maps nothing id (refused.Damaged x y) h (damaged_never l i id h.id_is x y maps))
+      ahead_exactly id (refused.StoreFault k) h m maps nothing quiet =
+          let x = slice_index_or f0 n c0 in
+          let y = slice_index_or f1 n c0 in
+          let all : EachQuiet (map store.faults x.stores) (map store.faults y.stores) = AllZip-get_or (λ a b. EachQuiet (map store.faults a.stores) (map store.faults b.stores)) f0 f1 n c0 c0 quiet inside_0 in
+          let last : EachQuiet (map store.faults (h.chain).stores) (map store.faults y.stores) =
+          each_within (map store.faults x.stores) (map store.faults (h.chain).stores) (map store.faults y.stores) (map store.faults y.stores) (h.before).never_fall (λ k. omega arith) all in
+          rose_never (slice_index (map store.faults (h.chain).stores) k) (slice_index (map store.faults y.stores) k) (last k)
+          (first_rose store.said store.faults store.may_lack_memory (entry_want l i id) k (h.chain).stores y.stores h.refused)
+      ahead_exactly id refused.Memory h m maps nothing quiet = tt
+
+      pub answers_ahead : (fault : FillFault) → ((x : Chained S) → RefusedAhead store l i fault (slice_index_or f0 n x) (slice_index_or f1 n x)) → FillAnswers store l s0 t c0 d f0 f1 (n + 1) (Err fault)
+      answers_ahead fault told =
+          let here = told c0 in
+          let A : FillFault → Type 0 = λ f. HoldsTo l (filled_to l (Err f)) t in
+          let E : FillFault → Type 0 = λ f. (m : Map (List ℕ)) (maps : List (Map (List ℕ))) → FillUnfailed store.holds store.faults l m maps s0 t c0.stores d.stores → AreQuiet store.faults f0 f1 → FillsBy l m maps (Err f) in
+          record {
+            holds = subst A (sym here.2) (ahead_holds here.0 here.1);
+            order = inr (record {
+              entry = i;
+              listed = inside;
+              shelf = s;
+              before = subst (λ (x : Chained S). FillsFirst store l i s0 s c0 x) (sym same) filled_before;
+              unfound = unfound;
+              kept = files;
+              holds = held_before;
+              stocks = kept_stocks kept;
+              further = n;
+              number = refl;
+              inside = inside_1;
+              refused = told;
+            });
+            exactly = subst E (sym here.2) (ahead_exactly here.0 here.1 here.3);
+            asks = turn_asks_all;
+            spared = turn_spares;
+            stocks = turn_stocks;
+            stores = turn_stores;
+          }
 
   -- entry i was found on the shelf, or what was read ahead was added to it; no store was asked
   pub filled_ahead : (i : ℕ) → i < count_of l → (s0 s t : Shelf) (c0 c : Chained S) → Filled store l i s0 s c0 c → IsAside l i s t
@@ -348,11 +408,11 @@ module _ {S : Type 0} (store : StoreWords S) (l : Listing) where
         ]
 
   -- all entries were filled
-  pub answers_filled : (i : ℕ) → i ≡ count_of l → (s0 s : Shelf) (c0 c : Chained S) → Filled store l i s0 s c0 c → FillAnswers store l s0 s c0 c (Ok tt)
-  answers_filled i all s0 s c0 c before = record {
+  pub answers_filled : (i : ℕ) → i ≡ count_of l → (s0 s : Shelf) (c0 c : Chained S) (f0 f1 : List (Chained S)) → Filled store l i s0 s c0 c → FillAnswers store l s0 s c0 c f0 f1 0 (Ok tt)
+  answers_filled i all s0 s c0 c f0 f1 before = record {
     holds = subst (λ (n : ℕ). HoldsTo l n s) all before.holds_all;
-    order = subst (λ (n : ℕ). FillsFirst store l n s0 s c0 c) all (record { holds = before.holds_all; stocks = before.stocks; asks = before.asks; stores = before.stores });
-    exactly = λ m maps nothing j less. before.given m maps nothing j (omega (arith, less, all));
+    order = (refl, subst (λ (n : ℕ). FillsFirst store l n s0 s c0 c) all (record { holds = before.holds_all; stocks = before.stocks; asks = before.asks; stores = before.stores }));
+    exactly = λ m maps nothing quiet j less. before.given m maps nothing j (omega (arith, less, all));
     asks = asked_all store.asked store.queried l i (omega (arith, all)) c0 c before.asks;
     spared = go (held_on s0) before.spared;
     stocks = filled_stocks i s0 s c0 c before;
@@ -362,3 +422,38 @@ module _ {S : Type 0} (store : StoreWords S) (l : Listing) where
         → IfSome o (λ m. ((j : ℕ) → j < count_of l → GivesEntry l j m) → Quiet s0.faults s.faults → c ≡ c0)
     go None h = tt
     go (Some m) h = λ all quiet. (h all quiet).0
+
+  -- without further workers, so with such as did nothing to it
+  pub answers_wider : (s0 s : Shelf) (c0 c : Chained S) (f0 f1 : List (Chained S)) (worker : ℕ) (r : Result Unit FillFault) → FillAnswers store l s0 s c0 c [] [] worker r → FillAnswers store l s0 s c0 c f0 f1 worker r
+  answers_wider s0 s c0 c f0 f1 worker r h = record {
+    holds = h.holds;
+    order = wider r h.order;
+    exactly = λ m maps nothing quiet. h.exactly m maps nothing tt;
+    asks = h.asks;
+    spared = h.spared;
+    stocks = h.stocks;
+    stores = h.stores;
+  } where
+    wider : (r : Result Unit FillFault) → FillEnds store l s0 s c0 c [] [] worker r → FillEnds store l s0 s c0 c f0 f1 worker r
+    wider (Ok u) h = h
+    wider (Err fault) (inl first) = inl first
+    wider (Err fault) (inr ahead) = absurd (omega (arith, ahead.inside))
+
+  -- an entry that a further worker was to read, and hasn't
+  module _ (i : ℕ) (s0 t : Shelf) (c0 c : Chained S) (left : LeavesEntry store l i s0 t c0 c) where
+    left_turn : Turns i left.shelf t c c
+    left_turn = record {
+      asks = inl (refl, inl (left.stops).0);
+      stocks = stocks_weaker (λ q b. ⊥) (λ q b. (q ≡ id_of l i) × MayFillCache store.holds l c.stores q b) (λ q b none. absurd none) left.shelf t left.kept;
+      stores = kept_still store (λ a. a ≡ Get (id_of l i)) c.stores;
+    }
+
+    -- it had no memory
+    pub answers_unread : FillAnswers store l s0 t c0 c [] [] 0 (Err faults.Memory)
+    answers_unread = answers_stopped i left.listed s0 left.shelf t c0 c c left.filled left_turn faults.Memory (inl refl) left.kept
+
+    -- or its stores refused it
+    pub answers_lost : (f0 f1 : List (Chained S)) → All (λ x. map store.holds x.stores ≡ map store.holds c0.stores) f0 → (n : ℕ) → n < length f0 → n < length f1 → (fault : FillFault)
+        → ((x : Chained S) → RefusedAhead store l i fault (slice_index_or f0 n x) (slice_index_or f1 n x)) → FillAnswers store l s0 t c0 c f0 f1 (n + 1) (Err fault)
+    answers_lost f0 f1 alike n inside_0 inside_1 fault told =
+        answers_ahead i left.listed s0 left.shelf t c0 c c left.filled left_turn (left.stops).1 (left.stops).0 left.kept refl f0 f1 alike n inside_0 inside_1 fault told

@@ -1,7 +1,7 @@
 -- What filling a cache by an index may answer, and what it does to the cache. l lists the chunks, `holds` gives what a
 -- store holds. s0 and s1 are the cache's shelf before and afterwards, c0 and c1 the stores.
 use Rattle.std.specs.Prelude.{◌≡◌, ◌⊎◌, ℕ, ◌+◌, ◌<◌, ◌≤◌, List, ◌∷◌, length, map}
-use Rattle.std.specs.Prelude.{Option, Some, IfSome, IsSome, Result, Ok, Err}
+use Rattle.std.specs.Prelude.{Option, Some, IfSome, IsSome, Result, Ok, Err, slice_index_or}
 use Rattle.std.specs.List.{AllZip}
 use Rattle.cache_store.specs.Giving.{GiveOneSize, SomeGives}
 use Rattle.cache_store.specs.Shelves.{Shelf, Stocks, held_on}
@@ -98,6 +98,10 @@ filled_to l (Err faults.Memory) = 0
 abbrev pub EntryUnfound : Listing → ℕ → Shelf → Shelf → Type 0
 EntryUnfound l i old new = IfSome (held_on old) (λ m. GivesEntry l i m → Rose old.faults new.faults)
 
+-- the shelf's files are as before, or it didn't give the chunk of entry i, or failed
+abbrev pub IsAside : Listing → ℕ → Shelf → Shelf → Type 0
+IsAside l i s t = (t.files ≡ s.files) ⊎ EntryUnfound l i s t
+
 -- what the stores are asked for: the chunk of this id, of the size of entry i
 abbrev pub entry_want : Listing → ℕ → ChunkId → Query
 entry_want l i id = query_of (kind_of l) id (Some (size_of l i)) (size_of l i)
@@ -139,6 +143,11 @@ module _ {S : Type 0} (store : StoreWords S) (l : Listing) where
   AsksEntry k s t c d = ((d ≡ c) × (t.files ≡ s.files))
       ⊎ (EntryUnfound l k s t × AsksOnce store.asked store.queried (id_of l k) c d)
 
+  -- so it is, or nobody asked these stores, and a further worker's chunk was added to the cache, or not
+  abbrev pub TurnAsks : ℕ → Shelf → Shelf → Chained S → Chained S → Type 0
+  TurnAsks k s t c d = ((d ≡ c) × IsAside l k s t)
+      ⊎ (EntryUnfound l k s t × AsksOnce store.asked store.queried (id_of l k) c d)
+
   -- the cache didn't give the chunk of entry k, or failed, and the stores, asked once, refused it for this reason
   pub record RefusesEntry (k : ℕ) (id : ChunkId) (r : Refused) (s t : Shelf) (c d : Chained S) : Type 0 where
     pub id_is : id.0 ≡ id_of l k
@@ -161,12 +170,20 @@ module _ {S : Type 0} (store : StoreWords S) (l : Listing) where
     pub gives : (maps : List (Map (List ℕ))) → map store.holds c.stores ≡ map Some maps
         → SomeGives (kind_of l) (id_of l k) (size_of l k) maps
 
+  -- the cache didn't give it, or failed, and a store of a further worker, whose stores hold the same, gave it, but it
+  -- wasn't put into the cache
+  pub record LosesAhead (k : ℕ) (s t : Shelf) (c d : Chained S) : Type 0 where
+    pub unfound : EntryUnfound l k s t
+    pub unasked : d ≡ c
+    pub gives : (maps : List (Map (List ℕ))) → map store.holds c.stores ≡ map Some maps
+        → SomeGives (kind_of l) (id_of l k) (size_of l k) maps
+
   -- the call for the chunk of entry k was refused so
   abbrev pub EntryFails : ℕ → Shelf → Shelf → Chained S → Chained S → FillFault → Type 0
   EntryFails k s t c d (faults.Missing e id) = (e ≡ k) × RefusesEntry k id refused.Missing s t c d
   EntryFails k s t c d (faults.Damaged e id m x) = (e ≡ k) × RefusesEntry k id (refused.Damaged m x) s t c d
   EntryFails k s t c d (faults.StoreFault m) = (id : ChunkId) × RefusesEntry k id (refused.StoreFault m) s t c d
-  EntryFails k s t c d faults.CacheFault = LosesEntry k s t c d × Rose s.faults t.faults
+  EntryFails k s t c d faults.CacheFault = (LosesEntry k s t c d ⊎ LosesAhead k s t c d) × Rose s.faults t.faults
   EntryFails k s t c d faults.Memory = (d ≡ c)
       ⊎ (((id : ChunkId) × RefusesEntry k id refused.Memory s t c d) ⊎ LosesEntry k s t c d)
 
@@ -191,16 +208,51 @@ module _ {S : Type 0} (store : StoreWords S) (l : Listing) where
     pub before : FillsFirst entry s0 shelf c0 chain
     pub fails : EntryFails entry shelf s1 chain c1 fault
     pub kept : Stocks (λ q b. ⊥) shelf s1
-    pub asks : AsksEntry entry shelf s1 chain c1
+    pub asks : TurnAsks entry shelf s1 chain c1
     pub stores : KeepsStores store (λ a. a ≡ Get (id_of l entry)) chain.stores c1.stores
     pub holds : HoldsTo l entry s1
     pub stocks : Stocks (λ q b. IsListedId l entry q) s0 s1
 
-  -- all entries were filled; or there was no memory to begin, and nothing was done; or filling ended early at one
-  abbrev pub FillEnds : Shelf → Shelf → Chained S → Chained S → Result Unit FillFault → Type 0
-  FillEnds s0 s1 c0 c1 (Ok u) = FillsFirst (count_of l) s0 s1 c0 c1
-  FillEnds s0 s1 c0 c1 (Err fault) =
-      ((fault ≡ faults.Memory) × (s1 ≡ s0) × (c1 ≡ c0)) ⊎ FillStops fault s0 s1 c0 c1
+  -- the stores of a further worker, asked for the chunk of entry k last, refused it for this reason
+  pub record RefusesAhead (k : ℕ) (id : ChunkId) (r : Refused) (c d : Chained S) : Type 0 where
+    pub id_is : id.0 ≡ id_of l k
+    pub chain : Chained S
+    pub before : KeepsStores store (IsListedGet l) c.stores chain.stores
+    pub asked : AsksOnce store.asked store.queried (id_of l k) chain d
+    pub refused : Refuses store.said store.faults store.may_lack_memory (entry_want l k id) chain.stores d.stores r
+    pub lacks : (maps : List (Map (List ℕ))) → map store.holds c.stores ≡ map Some maps
+        → LacksAll (entry_want l k id) maps r
+
+  -- and this is the fault
+  abbrev pub RefusedAhead : ℕ → FillFault → Chained S → Chained S → Type 0
+  RefusedAhead k fault c d = (id : ChunkId) × (r : Refused) × (fault ≡ fill_fault_of k id r)
+      × RefusesAhead k id r c d
+
+  -- filling ended early at an entry whose chunk the stores of this worker, which is a further one, refused. Those
+  -- before it were filled, which led to this cache and these stores. The cache didn't give the chunk, or failed
+  pub record StopsAhead (fault : FillFault) (worker : ℕ) (s0 s1 : Shelf) (c0 c1 : Chained S) (f0 f1 : List (Chained S))
+      : Type 0 where
+    pub entry : ℕ
+    pub listed : entry < count_of l
+    pub shelf : Shelf
+    pub before : FillsFirst entry s0 shelf c0 c1
+    pub unfound : EntryUnfound l entry shelf s1
+    pub kept : s1.files ≡ shelf.files
+    pub holds : HoldsTo l entry s1
+    pub stocks : Stocks (λ q b. IsListedId l entry q) s0 s1
+    pub further : ℕ
+    pub number : worker ≡ further + 1
+    pub inside : further < length f1
+    pub refused : (d : Chained S) → RefusedAhead entry fault (slice_index_or f0 further d) (slice_index_or f1 further d)
+
+  -- all entries were filled; or there was no memory to begin, and nothing was done; or filling ended early at one,
+  -- which the stores of this worker refused, where some did
+  abbrev pub FillEnds : Shelf → Shelf → Chained S → Chained S → List (Chained S) → List (Chained S) → ℕ
+      → Result Unit FillFault → Type 0
+  FillEnds s0 s1 c0 c1 f0 f1 worker (Ok u) = (worker ≡ 0) × FillsFirst (count_of l) s0 s1 c0 c1
+  FillEnds s0 s1 c0 c1 f0 f1 worker (Err fault) =
+      ((worker ≡ 0) × (((fault ≡ faults.Memory) × (s1 ≡ s0) × (c1 ≡ c0)) ⊎ FillStops fault s0 s1 c0 c1))
+      ⊎ StopsAhead fault worker s0 s1 c0 c1 f0 f1
 
 -- ---- what further workers do
 
@@ -208,6 +260,10 @@ module _ {S : Type 0} (store : StoreWords S) (l : Listing) where
 abbrev pub SparesHeld : {S : Type 0} → (S → List ℕ → ℕ) → Option (Map (List ℕ)) → Chained S → Chained S → Type 0
 SparesHeld asked held c d = IfSome held (λ m.
     AllZip (λ x y. (q : List ℕ) → IsSome (m q) → asked y q ≡ asked x q) c.stores d.stores)
+
+-- no store of a further worker has failed
+abbrev pub AreQuiet : {S : Type 0} → (S → ℕ) → List (Chained S) → List (Chained S) → Type 0
+AreQuiet counted f0 f1 = AllZip (λ c d. EachQuiet (map counted c.stores) (map counted d.stores)) f0 f1
 
 -- a further worker's stores were asked for each id at most once for each entry that lists it, and for listed chunks
 -- alone

@@ -1,10 +1,11 @@
 //! One entry of an index, whose chunk a cache is to hold. Entries are numbered from 0.
 
-ghost use Rattle.std.specs.Prelude.{◌≡◌, ◌≢◌, ℕ, List, ◌<◌, ◌≤◌, Some, None, IfSome, IfErr, IsTrue, OnOk, false};
+ghost use Rattle.std.specs.Prelude.{◌≡◌, ◌≢◌, ℕ, List, ◌<◌, ◌≤◌, Some, None, IfSome, IfErr, IsTrue, OnOk};
 ghost use Rattle.std.specs.Prelude.{length, map};
 ghost use Rattle.cache_fill.specs.Fetching.{SomeHoldsEntry};
-ghost use Rattle.cache_fill.specs.Filling.{AsksEntry, EntryFails, GivesEntry, IsGivenBy, MayFillCache, fill_fault_of};
-ghost use Rattle.cache_fill.specs.FillProgress.{IsAside};
+ghost use Rattle.cache_fill.specs.Filling.{AsksEntry, EntryFails, GivesEntry, IsAside, IsGivenBy, MayFillCache};
+ghost use Rattle.cache_fill.specs.Filling.{fill_fault_of};
+ghost use Rattle.cache_fill.specs.FillProgress.{StopsEntry};
 ghost use Rattle.cache_store.specs.Shelves.{Stocks, held_on, shelf_of};
 ghost use Rattle.caibx_codec.specs.Listing.{count_of, kind_of, id_of, size_of};
 ghost use Rattle.chunk_store.specs.Asks.{Get};
@@ -24,8 +25,15 @@ use dir_store::laws::put_changes_one_chunk;
 use dsy_base::folder::Folder;
 use store_chain::refused::Refused;
 
-// The fault where the stores refuse the chunk of an entry.
-fn fault_at(entry: u64, id: ChunkId, refused: Refused) -> FillFault
+/// Why an entry isn't filled.
+pub(crate) enum Stop {
+    Refused(FillFault),
+    /// A further worker was to read its chunk, and hasn't.
+    Unread,
+}
+
+/// The fault where the stores refuse the chunk of an entry.
+pub(crate) fn fault_at(entry: u64, id: ChunkId, refused: Refused) -> FillFault
     ensures value { result ≡ fill_fault_of entry id refused }
 {
     match refused {
@@ -100,20 +108,21 @@ fn is_unfound(miss: CacheMiss) -> bool
     }
 }
 
-/// Sees to entry i with bytes that were read ahead: adds them to the shelf where it doesn't give the chunk. No store is
-/// asked. Answers whether the shelf has the chunk then.
+/// Sees to entry i, which a further worker was to get, with what that has read of it: adds it to the shelf where it
+/// doesn't give the chunk. No store is asked.
 pub(crate) fn add_ahead<F: Folder, S: Store>(
     index: &Index,
     i: usize,
-    bytes: &[u8],
+    read: Option<&[u8]>,
     cached: &mut Cached<F, S>,
     chunk: &mut [u8],
-) -> bool
+) -> Result<(), Stop>
     requires listed { i < count_of index.now }
     requires inside { size_of index.now i ≤ length chunk.old }
     requires kind { cached.old.chain.kind ≡ kind_of index.now }
     requires unnamed { (F.pairs ≡ None) × (F.stores ≡ None) }
-    requires read { IsListedSlice index.now (SomeHoldsEntry S.holds index.now cached.old.chain.stores) i bytes.now }
+    requires read { IfSome read (λ b. IsListedSlice index.now
+        (SomeHoldsEntry S.holds index.now cached.old.chain.stores) i b.now) }
     ensures aside { IsAside index.now i (shelf_of F.files F.place F.faults cached.old.shelf)
         (shelf_of F.files F.place F.faults cached.new.shelf) }
     ensures stocks { Stocks (λ q b. (q ≡ id_of index.now i)
@@ -121,28 +130,32 @@ pub(crate) fn add_ahead<F: Folder, S: Store>(
         (shelf_of F.files F.place F.faults cached.old.shelf) (shelf_of F.files F.place F.faults cached.new.shelf) }
     ensures chain { cached.new.chain ≡ cached.old.chain }
 
-    ensures yes { IsTrue result →
-        IfSome (held_on (shelf_of F.files F.place F.faults cached.new.shelf)) (GivesEntry index.now i) }
-    ensures given { IsTrue result → (m : Map (List ℕ)) → (maps : List (Map (List ℕ))) →
+    ensures ok { OnOk result
+        (IfSome (held_on (shelf_of F.files F.place F.faults cached.new.shelf)) (GivesEntry index.now i)) }
+    ensures given { OnOk result ((m : Map (List ℕ)) → (maps : List (Map (List ℕ))) →
         held_on (shelf_of F.files F.place F.faults cached.old.shelf) ≡ Some m →
-        map S.holds cached.old.chain.stores ≡ map Some maps → IsGivenBy index.now m maps i }
-    ensures no { result ≡ false → Stocks (λ q b. ⊥) (shelf_of F.files F.place F.faults cached.old.shelf)
-        (shelf_of F.files F.place F.faults cached.new.shelf) }
+        map S.holds cached.old.chain.stores ≡ map Some maps → IsGivenBy index.now m maps i) }
+    ensures stops { IfErr result (StopsEntry S.Store index.now i
+        (shelf_of F.files F.place F.faults cached.old.shelf) (shelf_of F.files F.place F.faults cached.new.shelf)
+        cached.old.chain) }
+    ensures kept { IfErr result (λ e. Stocks (λ q b. ⊥) (shelf_of F.files F.place F.faults cached.old.shelf)
+        (shelf_of F.files F.place F.faults cached.new.shelf)) }
 {
     put_changes_one_chunk();
     let entry = index.entry(i);
     id_has_32_bytes(&entry.id);
-    match cached.look(&entry.id, Some(entry.size), chunk) {
-        Ok(_) => true,
-        Err(miss) => {
-            if !is_unfound(miss) {
-                return false;
-            }
-            match cached.keep(&entry.id, bytes) {
-                Kept::Yes => true,
-                Kept::Failed => false,
-                Kept::Memory => false,
-            }
-        }
+    let Err(miss) = cached.look(&entry.id, Some(entry.size), chunk) else {
+        return Ok(());
+    };
+    if !is_unfound(miss) {
+        return Err(Stop::Refused(FillFault::Memory));
+    }
+    let Some(bytes) = read else {
+        return Err(Stop::Unread);
+    };
+    match cached.keep(&entry.id, bytes) {
+        Kept::Yes => Ok(()),
+        Kept::Failed => Err(Stop::Refused(FillFault::CacheFault)),
+        Kept::Memory => Err(Stop::Refused(FillFault::Memory)),
     }
 }

@@ -1,21 +1,24 @@
 //! Filling a cache: each chunk that an index lists is got through it, and stands in it then.
 //! Entries are numbered from 0.
 
-ghost use Rattle.std.specs.Prelude.{◌≡◌, ℕ, List, ◌<◌, ◌≤◌, All, IsTrue, Some, None, length, map, vec_capacity};
+ghost use Rattle.std.specs.Prelude.{◌≡◌, ℕ, List, ◌+◌, ◌<◌, ◌≤◌, ◌∷◌, All, IsTrue, None, length, map, vec_capacity};
 ghost use Rattle.std.specs.List.{AllZip};
-ghost use Rattle.cache_fill.specs.Filling.{AsksEntries, FetchesAhead, FillEnds, FillUnfailed, FillsBy, HoldsTo};
-ghost use Rattle.cache_fill.specs.Filling.{MayFillCache, SparesHeld, SparesStores, filled_to};
-ghost use Rattle.cache_fill.specs.Fetching.{FetchesMarked};
-ghost use Rattle.cache_fill.specs.FillProgress.{FillAnswers, shelf_at};
+ghost use Rattle.chunk_dealing.specs.Dealing.{AsksInShares, DealsLacking, all_calls, owner_of};
+ghost use Rattle.cache_fill.specs.Filling.{AreQuiet, AsksEntries, FetchesAhead, FillEnds, FillUnfailed, FillsBy};
+ghost use Rattle.cache_fill.specs.Filling.{HoldsTo, MayFillCache, SparesHeld, SparesStores, filled_to};
+ghost use Rattle.cache_fill.specs.Fetching.{SharesOut};
+ghost use Rattle.cache_fill.specs.FillProgress.{RiseByOne, FillAnswers, IsHired, shelf_at};
 ghost use Rattle.cache_store.specs.Shelves.{KeepsShelf, Stocks, held_on, shelf_of};
 ghost use Rattle.caibx_codec.specs.Asks.{IsListedGet};
 ghost use Rattle.caibx_codec.specs.Listing.{count_of, kind_of, size_of};
 ghost use Rattle.dsy_base.specs.Maps.{Map};
+ghost use Rattle.image_chop.specs.Chopping.{times_listed};
 ghost use Rattle.store_chain.specs.Chains.{KeepsStores};
 
+use crate::ending::ended;
 use crate::filling::Filling;
 use crate::hiring::{buffers, dismiss, hire};
-use crate::lacking::list_ahead;
+use crate::lacking::{Dealt, deal_ahead, none_dealt};
 use crate::want_reader::WantReader;
 use cache_store::cached::Cached;
 use caibx_codec::index::Index;
@@ -23,7 +26,9 @@ use chunk_store::id::ChunkId;
 use chunk_store::shows::Shows;
 use chunk_store::store::Store;
 use dsy_base::folder::Folder;
-use read_ahead::rounds::take_all;
+use image_slices::ahead::Ahead;
+use read_ahead::claims::Sharing;
+use read_ahead::rounds::{room_pairs, take_alone, take_by_rounds};
 use std::alloc::Global;
 use std::snapshot::Snapshot;
 use std::thread::Threads;
@@ -54,49 +59,68 @@ pub enum FillFault {
     Memory,
 }
 
-// Fills all entries, while the readers get chunks ahead. The cache was only looked at since `first`.
+/// How filling ended, and the number of the worker whose stores refused a chunk, where they did: the first worker is 0.
+#[derive(Clone, Copy, Debug, PartialEq, Eq)]
+pub struct FillEnded {
+    pub result: Result<(), FillFault>,
+    pub worker: usize,
+}
+
+// Fills all entries, while the readers get those ahead that they were dealt. The cache was only looked at since
+// `first`.
 fn fill_entries<R: Threads + Sync, F: Folder, S: Store + Send>(
     rt: &R,
     index: &Index,
     cached: &mut Cached<F, S>,
     first: Snapshot<Cached<F, S>>,
     room: &mut Vec<u8>,
-    lacking: &[bool],
+    dealt: &Dealt,
     readers: &mut [WantReader<S>],
-) -> Result<(), FillFault>
+) -> FillEnded
     requires kind { cached.old.chain.kind ≡ kind_of index.now }
     requires unnamed { (F.pairs ≡ None) × (F.stores ≡ None) }
     requires inside { (i : ℕ) → i < count_of index.now → size_of index.now i ≤ length room.old.items }
     requires looked { KeepsShelf (shelf_at F.Look S.Store first.value) (shelf_at F.Look S.Store cached.old) }
     requires chain { cached.old.chain ≡ first.value.chain }
-    requires same { All (λ r. r.index.now ≡ index.now) readers.old }
-    requires marked { All (λ r. r.lacking.now ≡ lacking.now) readers.old }
-    requires unasked { All (λ r. r.asked ≡ record { floor = 0; low = 0; high = 0 }) readers.old }
+    requires lacking { DealsLacking index.now (held_on (shelf_at F.Look S.Store first.value))
+        (owner_of dealt.now.owners.items) }
+    requires hired { All (IsHired index.now dealt.now.owners.items) readers.old }
+    requires numbered { RiseByOne 1 readers.old }
     requires kinds { All (λ r. r.chain.kind ≡ kind_of index.now) readers.old }
     requires alike { All (λ r. map S.holds r.chain.stores ≡ map S.holds cached.old.chain.stores) readers.old }
     ensures answers { FillAnswers S.Store index.now (shelf_at F.Look S.Store first.value)
-        (shelf_at F.Look S.Store cached.new) first.value.chain cached.new.chain result }
-    ensures further { AllZip (λ r s. FetchesMarked S.Store index.now lacking.now r.chain s.chain)
-        readers.old readers.new }
+        (shelf_at F.Look S.Store cached.new) first.value.chain cached.new.chain
+        (map (λ r. r.chain) readers.old) (map (λ r. r.chain) readers.new) result.worker result.result }
+    ensures dealt { SharesOut S.Store index.now (held_on (shelf_at F.Look S.Store first.value)) first.value.chain
+        cached.new.chain (map (λ r. r.chain) readers.old) (map (λ r. r.chain) readers.new) }
 {
     let alloc = *room.allocator();
     let chunk = room.as_mut_slice();
-    let mut filling = Filling::new(cached, index, chunk, lacking, first);
-    let filled = take_all(rt, alloc, &mut filling, readers);
+    let none = none_dealt(alloc);
+    let mut filling = Filling::new(cached, index, chunk, &none, first);
+    let Ok((rooms, ready)) = room_pairs(alloc, &filling, readers.len()) else {
+        let taken = take_alone::<Ahead, _>(&mut filling);
+        let at = filling.at;
+        filling.end();
+        return ended(taken, at, readers);
+    };
+    filling.deal(dealt);
+    let taken = take_by_rounds(rt, Sharing::Dealt, &mut filling, readers, rooms, ready);
+    let at = filling.at;
     filling.end();
-    filled
+    ended(taken, at, readers)
 }
 
-// Whether the cache lacks a chunk, and there is memory for readers of this many chains.
+// Whether some worker was dealt an entry, and there is memory for readers of this many chains.
 fn may_hire<S: Store>(
     readers: &Vec<WantReader<S>>,
     buffers: &Vec<Vec<u8>>,
     chains: usize,
-    lacking: &[bool],
+    dealt: &Dealt,
 ) -> bool
     ensures { IsTrue result → chains ≤ vec_capacity readers.now }
 {
-    chains <= readers.capacity() && chains <= buffers.len() && lacking.contains(&true)
+    chains <= readers.capacity() && chains <= buffers.len() && !dealt.owners.is_empty()
 }
 
 // Fills all entries, while readers with the further chains get chunks ahead, if there is memory for them.
@@ -106,19 +130,23 @@ fn fill_beside<'a, R: Threads + Sync, F: Folder, S: Store + Send>(
     cached: &mut Cached<F, S>,
     first: Snapshot<Cached<F, S>>,
     room: &mut Vec<u8>,
-    lacking: &'a [bool],
+    dealt: &'a Dealt,
     further: &mut Vec<Chain<S>>,
-) -> Result<(), FillFault>
+) -> FillEnded
     requires kind { cached.old.chain.kind ≡ kind_of index.now }
     requires unnamed { (F.pairs ≡ None) × (F.stores ≡ None) }
     requires inside { (i : ℕ) → i < count_of index.now → size_of index.now i ≤ length room.old.items }
     requires looked { KeepsShelf (shelf_at F.Look S.Store first.value) (shelf_at F.Look S.Store cached.old) }
     requires chain { cached.old.chain ≡ first.value.chain }
+    requires lacking { DealsLacking index.now (held_on (shelf_at F.Look S.Store first.value))
+        (owner_of dealt.now.owners.items) }
     requires kinds { All (λ c. c.kind ≡ kind_of index.now) further.old.items }
     requires alike { All (λ c. map S.holds c.stores ≡ map S.holds cached.old.chain.stores) further.old.items }
     ensures answers { FillAnswers S.Store index.now (shelf_at F.Look S.Store first.value)
-        (shelf_at F.Look S.Store cached.new) first.value.chain cached.new.chain result }
-    ensures further { AllZip (FetchesMarked S.Store index.now lacking.now) further.old.items further.new.items }
+        (shelf_at F.Look S.Store cached.new) first.value.chain cached.new.chain further.old.items further.new.items
+        result.worker result.result }
+    ensures dealt { SharesOut S.Store index.now (held_on (shelf_at F.Look S.Store first.value)) first.value.chain
+        cached.new.chain further.old.items further.new.items }
 {
     let alloc = *room.allocator();
     let mut readers: Vec<WantReader<'a, S>> = match Vec::with_capacity(alloc, further.len()) {
@@ -129,41 +157,51 @@ fn fill_beside<'a, R: Threads + Sync, F: Folder, S: Store + Send>(
         Ok(buffers) => buffers,
         Err(_) => Vec::new(alloc),
     };
-    if !may_hire(&readers, &buffers, further.len(), lacking) {
-        return fill_entries(rt, index, cached, first, room, lacking, &mut readers);
+    if !may_hire(&readers, &buffers, further.len(), dealt) {
+        let none = none_dealt(alloc);
+        let mut nobody: Vec<WantReader<'a, S>> = Vec::new(alloc);
+        return fill_entries(rt, index, cached, first, room, &none, &mut nobody);
     }
-    hire(further, index, lacking, &mut buffers, &mut readers);
-    let filled = fill_entries(rt, index, cached, first, room, lacking, &mut readers);
+    hire(further, index, &dealt.owners, &mut buffers, &mut readers);
+    let filled = fill_entries(rt, index, cached, first, room, dealt, &mut readers);
     dismiss(&mut readers, further);
     filled
 }
 
 /// Sees to it that the cache holds each chunk that the index lists, entry by entry up to the first refusal: one that it
-/// doesn't give is got from the stores and put into it. An id that is listed twice is filled twice. Each further chain
-/// gets chunks that the cache lacks ahead of their turns, in a thread of its own where there is memory for its rooms.
+/// doesn't give is got from the stores and put into it. An id that is listed twice is filled twice. The entries whose
+/// chunks the cache lacks are dealt to the further chains, which get these ahead of their turns, each in a thread of
+/// its own, where there is memory for their rooms. No chain asks for an entry of another.
 pub fn fill<R: Threads + Sync, F: Folder, S: Store + Send>(
     rt: &R,
     alloc: Global,
     index: &Index,
     cached: &mut Cached<F, S>,
     further: &mut Vec<Chain<S>>,
-) -> Result<(), FillFault>
+) -> FillEnded
     requires kind { cached.old.chain.kind ≡ kind_of index.now }
     requires unnamed { (F.pairs ≡ None) × (F.stores ≡ None) }
     // Further workers name chunks by the same digest, and their stores hold the same.
     requires kinds { All (λ c. c.kind ≡ kind_of index.now) further.old.items }
     requires alike { All (λ c. map S.holds c.stores ≡ map S.holds cached.old.chain.stores) further.old.items }
-    ensures holds { HoldsTo index.now (filled_to index.now result)
+    ensures holds { HoldsTo index.now (filled_to index.now result.result)
         (shelf_of F.files F.place F.faults cached.new.shelf) }
     ensures order { FillEnds S.Store index.now
         (shelf_of F.files F.place F.faults cached.old.shelf) (shelf_of F.files F.place F.faults cached.new.shelf)
-        cached.old.chain cached.new.chain result }
+        cached.old.chain cached.new.chain further.old.items further.new.items result.worker result.result }
     // Where nothing fails.
     ensures exactly { (m : Map (List ℕ)) → (maps : List (Map (List ℕ))) → FillUnfailed S.holds S.faults index.now m maps
         (shelf_of F.files F.place F.faults cached.old.shelf) (shelf_of F.files F.place F.faults cached.new.shelf)
-        cached.old.chain.stores cached.new.chain.stores → FillsBy index.now m maps result }
+        cached.old.chain.stores cached.new.chain.stores →
+        AreQuiet S.faults further.old.items further.new.items → FillsBy index.now m maps result.result }
 
-    // How often the stores are asked, what the cache holds then, and what the stores keep.
+    // How often the stores of all workers are asked together.
+    ensures shares { AsksInShares S.asked (times_listed index.now (count_of index.now))
+        (cached.old.chain ∷ further.old.items) (cached.new.chain ∷ further.new.items) }
+    ensures calls { all_calls (cached.new.chain ∷ further.new.items)
+        ≤ all_calls (cached.old.chain ∷ further.old.items) + count_of index.now }
+
+    // How often those of each are, what the cache holds then, and what the stores keep.
     ensures asks { AsksEntries S.asked S.queried index.now (count_of index.now) cached.old.chain cached.new.chain }
     ensures spared { SparesStores index.now (shelf_of F.files F.place F.faults cached.old.shelf)
         (shelf_of F.files F.place F.faults cached.new.shelf) cached.old.chain cached.new.chain }
@@ -175,9 +213,12 @@ pub fn fill<R: Threads + Sync, F: Folder, S: Store + Send>(
         further.old.items further.new.items }
 {
     let Ok(mut room) = index.room(alloc) else {
-        return Err(FillFault::Memory);
+        return FillEnded {
+            result: Err(FillFault::Memory),
+            worker: 0,
+        };
     };
     let first = Snapshot::of(&*cached);
-    let lacking = list_ahead(alloc, index, cached, further.len());
-    fill_beside(rt, index, cached, first, &mut room, &lacking, further)
+    let dealt = deal_ahead(alloc, index, cached, further.len(), room.len());
+    fill_beside(rt, index, cached, first, &mut room, &dealt, further)
 }

@@ -2,8 +2,8 @@
 
 ghost use Rattle.std.specs.Prelude.{◌≡◌, ◌≤◌, [], map, All};
 ghost use Rattle.std.specs.Prelude.{vec_capacity, vec_len};
+ghost use Rattle.cache_fill.specs.FillProgress.{RiseByOne, IsHired};
 
-use crate::asked::Asked;
 use crate::want_reader::WantReader;
 use caibx_codec::index::Index;
 use chunk_store::store::Store;
@@ -23,20 +23,19 @@ pub(crate) fn buffers(
     Ok(buffers)
 }
 
-/// Makes a reader of each chain, which has one of the buffers.
+/// Makes a reader of each chain, which has one of the buffers. The first of them is worker 1.
 pub(crate) fn hire<'a, S: Store>(
     chains: &mut Vec<Chain<S>>,
     index: &'a Index,
-    lacking: &'a [bool],
+    owners: &'a [u8],
     buffers: &mut Vec<Vec<u8>>,
     readers: &mut Vec<WantReader<'a, S>>,
 )
     requires none { readers.old.items ≡ [] }
     requires room { vec_len chains.old ≤ vec_capacity readers.old }
     ensures kept { chains.old.items ≡ map (λ r. r.chain) readers.new.items }
-    ensures index { All (λ r. r.index.now ≡ index.now) readers.new.items }
-    ensures marked { All (λ r. r.lacking.now ≡ lacking.now) readers.new.items }
-    ensures unasked { All (λ r. r.asked ≡ record { floor = 0; low = 0; high = 0 }) readers.new.items }
+    ensures hired { All (IsHired index.now owners.now) readers.new.items }
+    ensures numbered { RiseByOne 1 readers.new.items }
     ensures none { chains.new.items ≡ [] }
     ensures room { vec_len readers.new ≤ vec_capacity chains.new }
 {
@@ -47,13 +46,15 @@ pub(crate) fn hire<'a, S: Store>(
             Some(buf) => buf,
             None => Vec::new(alloc),
         };
-        let asked = Asked::none();
+        let number = readers.len() + 1;
         let Ok(()) = readers.push(WantReader {
             chain,
             index,
-            lacking,
+            owners,
+            number,
             buf,
-            asked,
+            next: 0,
+            lost: None,
         }) else {
             unreachable!();
         };

@@ -1,6 +1,7 @@
-//! Which entries are worth being read ahead, and how far. Entries are numbered from 0, sizes are in bytes.
+//! Which chunks a cache lacks, and which worker is to get each of them. Entries are numbered from 0.
 
-ghost use Rattle.std.specs.Prelude.{◌≡◌, ◌<◌, ◌≤◌, IfOk, IfSome, None, Ok, false, slice_index_or, true};
+ghost use Rattle.std.specs.Prelude.{◌≡◌, ◌<◌, [], IfOk, IfSome, None, Ok, true};
+ghost use Rattle.chunk_dealing.specs.Dealing.{DealsLacking, owner_of};
 ghost use Rattle.cache_fill.specs.Fetching.{MarksLacking};
 ghost use Rattle.cache_fill.specs.FillProgress.{shelf_at};
 ghost use Rattle.cache_store.specs.Shelves.{KeepsShelf, held_on};
@@ -9,61 +10,17 @@ ghost use Rattle.caibx_codec.specs.Listing.{count_of, id_of};
 use cache_store::cached::Cached;
 use cache_store::shelf::CacheMiss;
 use caibx_codec::index::Index;
+use chunk_dealing::dealing::{Dealer, deal, marked_bytes, room_size};
 use chunk_store::store::Store;
 use dsy_base::folder::Folder;
 use std::alloc::{AllocError, Global};
 use std::collections::BTreeSet;
 
-/// How many bytes a worker reads ahead into each of its two rooms, with the lists of what stands in them, unless the
-/// largest chunk has more.
-const READ_AHEAD: usize = 524_288;
-
-/// How many bytes the list of a room takes.
-const LIST: usize = 16_384;
-
-/// How many chunks stand in a room at most.
-const PIECES: usize = 1_024;
-
-/// The size of a room beside its list, where the largest chunk has `largest` bytes.
-pub(crate) fn room_size(largest: usize) -> usize {
-    largest.max(READ_AHEAD - LIST)
-}
-
-/// Whether the cache lacked the chunk of entry i. Where there is no list it isn't known.
-pub(crate) fn is_lacking(lacking: &[bool], i: usize) -> bool
-    ensures { result ≡ slice_index_or lacking.now i false }
-{
-    match lacking.get(i) {
-        Some(lacks) => *lacks,
-        None => false,
-    }
-}
-
-/// The entry after those of the round that begins with entry `from`: as many as this thread and the readers take and
-/// read ahead, where the largest chunk has `largest` bytes.
-pub(crate) fn round_end(
-    index: &Index,
-    lacking: &[bool],
-    from: usize,
-    readers: usize,
-    largest: usize,
-) -> usize
-    requires { from < count_of index.now }
-    ensures { (from < result) × (result ≤ count_of index.now) }
-{
-    let mut bytes = readers.saturating_add(1).saturating_mul(room_size(largest));
-    let mut pieces = readers.saturating_mul(PIECES);
-    for i in from..index.count() {
-        if is_lacking(lacking, i) {
-            let size = index.entry(i).size;
-            if from < i && (bytes < size || pieces == 0) {
-                return i;
-            }
-            bytes = bytes.saturating_sub(size);
-            pieces = pieces.saturating_sub(1);
-        }
-    }
-    index.count()
+/// For each entry the number of the worker that is to get its chunk ahead, or 0; and the dealer, before it began.
+#[derive(Drop)]
+pub(crate) struct Dealt {
+    pub owners: Vec<u8>,
+    pub dealer: Dealer,
 }
 
 // Whether the id of entry i is new, and the cache has no file of its chunk. No digest is computed: nothing is lent for
@@ -110,23 +67,58 @@ fn list_lacking<F: Folder, S: Store>(
     Ok(lacking)
 }
 
-/// Which chunks the cache lacks, entry by entry, each at the first entry of its id. No list is made where there are no
-/// further chains, or no memory.
-pub(crate) fn list_ahead<F: Folder, S: Store>(
+/// Nobody is dealt anything.
+pub(crate) fn none_dealt(alloc: Global) -> Dealt
+    ensures { result.owners.items ≡ [] }
+{
+    Dealt {
+        owners: Vec::new(alloc),
+        dealer: Dealer::new(0, 0, 0),
+    }
+}
+
+// Deals the entries whose chunk the cache lacks, each at the first entry of its id, if there are any.
+fn deal_lacking<F: Folder, S: Store>(
     alloc: Global,
     index: &Index,
     cached: &mut Cached<F, S>,
     chains: usize,
-) -> Vec<bool>
-    ensures only { MarksLacking index.now (held_on (shelf_at F.Look S.Store cached.old)) result.items }
+    largest: usize,
+) -> Result<Dealt, AllocError>
+    ensures only { IfOk result (λ d. DealsLacking index.now (held_on (shelf_at F.Look S.Store cached.old))
+        (owner_of d.owners.items)) }
+    ensures kept { KeepsShelf (shelf_at F.Look S.Store cached.old) (shelf_at F.Look S.Store cached.new) }
+    ensures chain { cached.new.chain ≡ cached.old.chain }
+{
+    let lacking = list_lacking(alloc, index, cached)?;
+    if !lacking.contains(&true) {
+        return Ok(none_dealt(alloc));
+    }
+    let bytes = marked_bytes(index, &lacking);
+    let dealer = Dealer::new(chains, bytes, room_size(largest));
+    let owners = deal(alloc, index, &lacking, dealer)?;
+    Ok(Dealt { owners, dealer })
+}
+
+/// Deals the entries whose chunk the cache lacks to this many further workers. Nobody is dealt anything where there is
+/// no such worker, or no memory. The largest chunk has `largest` bytes.
+pub(crate) fn deal_ahead<F: Folder, S: Store>(
+    alloc: Global,
+    index: &Index,
+    cached: &mut Cached<F, S>,
+    chains: usize,
+    largest: usize,
+) -> Dealt
+    ensures only { DealsLacking index.now (held_on (shelf_at F.Look S.Store cached.old))
+        (owner_of result.owners.items) }
     ensures kept { KeepsShelf (shelf_at F.Look S.Store cached.old) (shelf_at F.Look S.Store cached.new) }
     ensures chain { cached.new.chain ≡ cached.old.chain }
 {
     if chains == 0 {
-        return Vec::new(alloc);
+        return none_dealt(alloc);
     }
-    match list_lacking(alloc, index, cached) {
-        Ok(lacking) => lacking,
-        Err(_) => Vec::new(alloc),
+    match deal_lacking(alloc, index, cached, chains, largest) {
+        Ok(dealt) => dealt,
+        Err(_) => none_dealt(alloc),
     }
 }

@@ -1,7 +1,7 @@
 //! Caches that are filled by an index, with chunks that further workers get ahead.
 #![tactic(auto)]
 
-mod asked;
+mod ending;
 mod entry;
 pub mod fill;
 mod filling;

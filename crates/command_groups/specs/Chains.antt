@@ -2,7 +2,7 @@
 use Rattle.std.specs.Prelude.{◌≡◌, ℕ, List, All, IfSome, map}
 use Rattle.std.specs.List.{fold}
 use Rattle.command_groups.specs.Groups.{stores_of}
-use Rattle.command_groups.specs.Opened.{AreUnused, IsFresh, files_in, locations_in, with_group}
+use Rattle.command_groups.specs.Opened.{AreUnused, IsFresh, IsGroupGiven, files_in, locations_in, with_group}
 use Rattle.command_steps.specs.AnyStores.{IsKnown, source_faults}
 use Rattle.command_steps.specs.Sources.{ConsultsStores, Storage, location_files}
 use Rattle.command_steps.specs.declared.any_store.AnyStore.{AnyStore}
@@ -37,3 +37,4 @@ module _ {L D K : Type 0} (look : LookWords L) where
     pub record IsChainGiven (c : Chained (Grouped (AnyStore L D K))) (w v : Storage) : Type 0 where
       pub consults : ConsultsStores (stores_of (chain_groups c)) w v
       pub ended : v.dial.ended ≡ fold (with_group state) w.dial.ended c.stores
+      pub groups : All (IsGroupGiven look.place look.faults state w v) c.stores

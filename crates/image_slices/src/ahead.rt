@@ -23,8 +23,8 @@ pub struct Piece {
     pub at: usize,
 }
 
-/// A room of bytes. Slices stand in it one after another, up to `filled`. Entries fall from piece to piece, in whichever
-/// order the slices were put there.
+/// A room of bytes. Slices stand in it one after another, up to `filled`. Entries fall from piece to piece, in
+/// whichever order the slices were put there.
 #[derive(Drop)]
 pub struct Ahead {
     pub room: Vec<u8>,

@@ -1,11 +1,11 @@
 use Rattle.std.proofs.Common.{◌∙◌, ℕ, List, [], ◌∷◌, Ok, Err, inl, inr, refl, rules, subst, sym}
 use Rattle.std.proofs.lemmas.List.Elements.{All-rest}
-use Rattle.cache_command.proofs.AskedListings.{front_wider, listed_none, listed_then}
-use Rattle.cache_command.proofs.CacheFilled.{fill_passed, fill_stopped, fills_on}
+use Rattle.cache_command.proofs.AskedListings.{front_wider, listed_none, listed_then, shares_none, shares_then}
+use Rattle.cache_command.proofs.CacheFilled.{fill_passed, fill_stopped, fills_on, none_fell}
 use Rattle.cache_command.proofs.Had.{had_first, had_next, had_none, rest_part}
 use Rattle.cache_command.proofs.cache.+fill_each.Goals as goal
 use Rattle.cache_command.specs.Caching.{of_calls}
-use Rattle.cache_command.specs.Filling.{AreHad}
+use Rattle.cache_command.specs.Filling.{AreHad, each_stores}
 use Rattle.caibx_codec.specs.Listing.{Listing}
 use Rattle.command_indexes.proofs.Got.{got_not_spelled}
 use Rattle.command_indexes.proofs.Spelled.{got_then}
@@ -64,12 +64,14 @@ returns-clause-filled g t c =
     let l : Listing = c.in-Ok-load_index.index in
     let old = c.args.filling.cached in
     let new = c.fill_by-filling.result.0.cached in
+    let before = each_stores (old.chain ∷ c.args.filling.further.items) in
+    let after = each_stores (new.chain ∷ c.fill_by-filling.result.0.further.items) in
     let by = c.fill_by-filling.ensures.filled in
     let w = storage (g.F.Files.disk c.args.files.now) (g.D.Dial.state c.args.dial.now) in
     let u = storage (g.F.Files.disk c.load_index.new.files) (g.D.Dial.state c.load_index.new.dial) in
     let got = subst (λ (q : List ℕ). IndexGot q w (Ok l) u) (c.in-Ok.ensures ∙ c.as_str.ensures) c.in-Ok-load_index.ensures.ends in
     let listed = got_then c.in-Some.first.now w u u l got (dials_none u.dial) in
-    let stopped = fill_stopped (of_calls store old.chain.stores new.chain.stores (D.faults old.shelf.folder) (D.faults new.shelf.folder)) l (D.files old.shelf.folder) (D.files new.shelf.folder)
+    let stopped = fill_stopped (of_calls store before after c.fill_by-filling.result.0.refuser (D.faults old.shelf.folder) (D.faults new.shelf.folder)) l (D.files old.shelf.folder) (D.files new.shelf.folder)
     by.0 c.in-Err-filled.outcome (sym by.1 ∙ c.in-Err-filled.is) by.2 in
     rw c.in-Some.ensures.cases.0 (inr (l, listed, inl stopped))
 
@@ -90,22 +92,27 @@ returns-in-Ok-filled-clause-filled g t c =
     let had : AreHad rest u v = c.fill_each.ensures.had in
     let got = subst (λ (q : List ℕ). IndexGot q w (Ok l) u) (c.in-Ok.ensures ∙ c.as_str.ensures) c.in-Ok-load_index.ensures.ends in
     let listed = got_then q w u v l got had.dials in
-    let passed = fill_passed (of_calls store old.chain.stores mid.chain.stores (D.faults old.shelf.folder) (D.faults mid.shelf.folder)) l (D.files old.shelf.folder) (D.files mid.shelf.folder)
+    let b0 = each_stores (old.chain ∷ c.args.filling.further.items) in
+    let b1 = each_stores (mid.chain ∷ c.fill_by-filling.result.0.further.items) in
+    let b2 = each_stores (new.chain ∷ c.fill_each.result.0.further.items) in
+    let passed = fill_passed (of_calls store b0 b1 c.fill_by-filling.result.0.refuser (D.faults old.shelf.folder) (D.faults mid.shelf.folder)) l (D.files old.shelf.folder) (D.files mid.shelf.folder)
     by.0 _ (sym by.1 ∙ c.in-Ok-filled.is) by.2 in
-    let first = c.fill_by-filling.ensures.asks.0.keeps in
-    let then = c.fill_each.ensures.asks.2.0.keeps in
-    rw c.in-Some.ensures.cases.0 (fills_on store (D.faults old.shelf.folder) (D.faults mid.shelf.folder) (D.faults new.shelf.folder) old.chain.stores mid.chain.stores new.chain.stores
-    c.fill_by-filling.ensures.never_falls c.fill_each.ensures.never_falls first.files first.never_fall then.never_fall w u v (rest_part q rest w (Ok l) u got v had)
+    let first = c.fill_by-filling.ensures.asks in
+    let then = c.fill_each.ensures.asks in
+    let fell = none_fell store (l ∷ []) (old.chain ∷ c.args.filling.further.items) (mid.chain ∷ c.fill_by-filling.result.0.further.items) first in
+    let falls = none_fell store then.0 (mid.chain ∷ c.fill_by-filling.result.0.further.items) (new.chain ∷ c.fill_each.result.0.further.items) then.2 in
+    rw c.in-Some.ensures.cases.0 (fills_on store (D.faults old.shelf.folder) (D.faults mid.shelf.folder) (D.faults new.shelf.folder) b0 b1 b2 c.fill_by-filling.result.0.refuser c.fill_each.result.0.refuser
+    c.fill_by-filling.ensures.never_falls c.fill_each.ensures.never_falls first.0.keeps.files fell falls w u v (rest_part q rest w (Ok l) u got v had)
     q rest l (D.files old.shelf.folder) (D.files mid.shelf.folder) (D.files new.shelf.folder) c.fill_each.result.1 listed passed c.fill_each.ensures.filled)
 
 pub returns-in_default-clause-asks : goal.returns-in_default-clause-asks
-returns-in_default-clause-asks g t c = ([], tt, listed_none _ (c.args.filling.cached.chain ∷ c.args.filling.further.items))
+returns-in_default-clause-asks g t c = ([], tt, listed_none _ (c.args.filling.cached.chain ∷ c.args.filling.further.items), shares_none g.S.Store (c.args.filling.cached.chain ∷ c.args.filling.further.items))
 
 pub returns-in_default-of-clause-asks : goal.returns-in_default-of-clause-asks
-returns-in_default-of-clause-asks g t c = ([], tt, listed_none _ (c.args.filling.cached.chain ∷ c.args.filling.further.items))
+returns-in_default-of-clause-asks g t c = ([], tt, listed_none _ (c.args.filling.cached.chain ∷ c.args.filling.further.items), shares_none g.S.Store (c.args.filling.cached.chain ∷ c.args.filling.further.items))
 
 pub returns-in-Err-clause-asks : goal.returns-in-Err-clause-asks
-returns-in-Err-clause-asks g t c = ([], tt, listed_none _ (c.args.filling.cached.chain ∷ c.args.filling.further.items))
+returns-in-Err-clause-asks g t c = ([], tt, listed_none _ (c.args.filling.cached.chain ∷ c.args.filling.further.items), shares_none g.S.Store (c.args.filling.cached.chain ∷ c.args.filling.further.items))
 
 pub returns-clause-asks : goal.returns-clause-asks
 returns-clause-asks g t c =
@@ -113,7 +120,7 @@ returns-clause-asks g t c =
     let u = storage (g.F.Files.disk c.load_index.new.files) (g.D.Dial.state c.load_index.new.dial) in
     let l : Listing = c.in-Ok-load_index.index in
     let got = subst (λ (q : List ℕ). IndexGot q w (Ok l) u) (c.in-Ok.ensures ∙ c.as_str.ensures) c.in-Ok-load_index.ensures.ends in
-    (l ∷ [], rw c.in-Some.ensures.cases.0 (got_then c.in-Some.first.now w u u l got (dials_none u.dial), tt), c.fill_by-filling.ensures.asks)
+    (l ∷ [], rw c.in-Some.ensures.cases.0 (got_then c.in-Some.first.now w u u l got (dials_none u.dial), tt), c.fill_by-filling.ensures.asks, c.fill_by-filling.ensures.shares)
 
 pub returns-in-Ok-filled-clause-asks : goal.returns-in-Ok-filled-clause-asks
 returns-in-Ok-filled-clause-asks g t c =
@@ -132,4 +139,5 @@ returns-in-Ok-filled-clause-asks g t c =
       l ∷ rest.0,
       rw c.in-Some.ensures.cases.0 (got_then q w u v l got had.dials, front_wider w u v v (rest_part q names w (Ok l) u got v had) names rest.0 rest.1),
       listed_then _ l rest.0 (old.cached.chain ∷ old.further.items) (mid.cached.chain ∷ mid.further.items) (new.cached.chain ∷ new.further.items) c.fill_by-filling.ensures.asks rest.2,
+      shares_then g.S.Store l rest.0 (old.cached.chain ∷ old.further.items) (mid.cached.chain ∷ mid.further.items) (new.cached.chain ∷ new.further.items) c.fill_by-filling.ensures.shares rest.3,
     )

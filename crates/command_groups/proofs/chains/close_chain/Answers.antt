@@ -9,5 +9,6 @@ returns g c =
       given = record {
         consults = rw c.into_stores.ensures.value at c.close_groups.ensures.kept;
         ended = rw c.into_stores.ensures.value at c.close_groups.ensures.ended;
+        groups = rw c.into_stores.ensures.value at c.close_groups.ensures.given;
       };
     }

@@ -1,0 +1,4 @@
+//! Entries of an index that are dealt to several workers, who each ask for their own.
+#![tactic(auto)]
+
+pub mod dealing;
