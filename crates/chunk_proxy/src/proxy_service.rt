@@ -88,4 +88,6 @@ impl<F: Folder, S: Store> Service for ProxyService<F, S> {
             act => desk.answer(&act),
         }
     }
+
+    fn take_back(_desk: &mut ProxyState<F, S>, _room: Vec<u8>) {}
 }

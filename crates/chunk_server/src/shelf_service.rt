@@ -80,4 +80,6 @@ impl<H: Shelf> Service for ShelfService<H> {
             act => desk.answer(&act, body),
         }
     }
+
+    fn take_back(_desk: &mut H, _room: Vec<u8>) {}
 }

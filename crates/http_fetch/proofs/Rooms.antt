@@ -1,8 +1,8 @@
 -- A body is read alike with any room that it fits.
-use Rattle.std.proofs.Common.{◌≡◌, ℕ, ◌+◌, ◌-◌, ◌<◌, ◌≤◌, ◌==◌, Bool, true, false, nat_lt, nat_le, if◌then◌else◌, List, [], ◌∷◌, ◌++◌, length, Option, Some, None, Result, Ok, Err, refl, sym, ap, ◌∙◌, subst, arith}
+use Rattle.std.proofs.Common.{◌≡◌, ℕ, ◌+◌, ◌-◌, ◌<◌, ◌≤◌, ◌==◌, Bool, true, false, nat_lt, nat_le, if◌then◌else◌, List, [], ◌∷◌, ◌++◌, length, Option, Some, None, Result, Ok, Err, refl, ap, ◌∙◌, subst, arith}
 use Rattle.std.proofs.lemmas.Bool.Decides.{nat_tests}
 use Rattle.std.proofs.lemmas.List.{length-append}
-use Rattle.http_frames.specs.Body.{Reading, appended, counted, expected, in_line, push_to_body, push_at, reads_body, sized, body_in, body_start, trailed, first_next, may_end, ◌>>=◌}
+use Rattle.http_frames.specs.Body.{Reading, appended, counted, expected, in_line, push_to_body, push_at, reads_body, sized, body_in, body_start, trailed, may_end, ◌>>=◌}
 use Rattle.http_frames.specs.SizeLine.{size_in}
 use Rattle.http_frames.specs.declared.body.BodyKind.{BodyKind}
 use Rattle.http_frames.specs.declared.body.BodyKind.TheVariants as kind
@@ -10,7 +10,7 @@ use Rattle.http_frames.specs.declared.fault.WireFault.{WireFault}
 use Rattle.http_frames.specs.declared.fault.WireFault.TheVariants as faults
 use Rattle.http_frames.specs.declared.progress.Next.{Next}
 use Rattle.http_frames.specs.declared.progress.Next.TheVariants as next
-use Rattle.http_fetch.specs.Fetching.{room_of_body, tells_more}
+use Rattle.http_fetch.specs.Fetching.{tells_more}
 
 -- the bytes that are missing of the length or of the open chunk
 abbrev awaited : Next → ℕ → ℕ
@@ -239,74 +239,3 @@ told_fits wide room (kind.Length n) bytes b is fits =
     grind (arith, nat_tests)
 told_fits wide room kind.Chunked bytes b is fits = refl
 told_fits wide room kind.ToEnd bytes b is fits = refl
-
--- ---- a body by its Content-Length, with the room for it and with more
-
--- as many bytes are there and missing
-abbrev Counts : ℕ → Next → ℕ → List ℕ → Type 0
-Counts n next.Whole left body = Unit {0}
-Counts n next.Length left body = length body + left ≡ n
-Counts n _ left body = ⊥
-
-abbrev CountsIn : ℕ → Result Reading WireFault → Type 0
-CountsIn n (Ok r) = Counts n r.next r.left r.body
-CountsIn n (Err f) = ⊥
-
-counted_alike : (n room left : ℕ) (line : List ℕ) (trailer : ℕ) (body : List ℕ) (x : ℕ) → length body + left ≡ n → n ≤ room
-    → (counted next.Length next.Whole room (at next.Length left line trailer body) x ≡ counted next.Length next.Whole n (at next.Length left line trailer body) x)
-    × CountsIn n (counted next.Length next.Whole n (at next.Length left line trailer body) x)
-unfolding counted
-counted_alike n room left line trailer body x is fits =
-    let r = at next.Length left line trailer body in
-    let more : length (body ++ x ∷ []) ≡ length body + 1 = length-append body (x ∷ []) in
-    let here : nat_lt n (length body + left) ≡ false = grind (arith, nat_tests) in
-    let there : nat_lt room (length body + left) ≡ false = grind (arith, nat_tests) in (
-      rw (here, there) refl,
-      both (nat_le left 1) (CountsIn n (counted next.Length next.Whole n r x))
-          (λ one. rw (here, one) tt)
-          (λ two. let many : 1 < left = grind (arith, nat_tests) in rw (here, two) (omega (arith, more, is, many))),
-    )
-
-byte_alike : (nx : Next) (n room left : ℕ) (line : List ℕ) (trailer : ℕ) (body : List ℕ) (x : ℕ) → Counts n nx left body → n ≤ room
-    → (push_at nx room (at nx left line trailer body) x ≡ push_at nx n (at nx left line trailer body) x) × CountsIn n (push_at nx n (at nx left line trailer body) x)
-unfolding push_at
-byte_alike next.Whole n room left line trailer body x is fits = (refl, tt)
-byte_alike next.Length n room left line trailer body x is fits = counted_alike n room left line trailer body x is fits
-byte_alike next.ToEnd n room left line trailer body x is fits = absurd is
-byte_alike next.SizeLine n room left line trailer body x is fits = absurd is
-byte_alike next.Chunk n room left line trailer body x is fits = absurd is
-byte_alike next.ChunkCr n room left line trailer body x is fits = absurd is
-byte_alike next.ChunkLf n room left line trailer body x is fits = absurd is
-byte_alike next.Trailer n room left line trailer body x is fits = absurd is
-byte_alike next.TrailerCr n room left line trailer body x is fits = absurd is
-byte_alike next.TrailerLine n room left line trailer body x is fits = absurd is
-
-then_alike : (n : ℕ) (p q : Result Reading WireFault) (f g : Reading → Result Reading WireFault) → p ≡ q → CountsIn n q
-    → ((s : Reading) → Counts n s.next s.left s.body → f s ≡ g s) → (p >>= f) ≡ (q >>= g)
-then_alike n p (Ok s) f g same counts on = ap (λ r. r >>= f) same ∙ on s counts
-then_alike n p (Err e) f g same counts on = absurd counts
-
-reads_alike : (n room : ℕ) (xs : List ℕ) (r : Reading) → Counts n r.next r.left r.body → n ≤ room → reads_body room r xs ≡ reads_body n r xs
-unfolding reads_body
-reads_alike n room [] r counts fits = refl
-reads_alike n room (x ∷ xs) r counts fits =
-    let one = byte_alike r.next n room r.left r.line r.trailer r.body x counts fits in
-    then_alike n (push_to_body room r x) (push_to_body n r x) (λ s. reads_body room s xs) (λ s. reads_body n s xs) one.0 one.1 (λ s counts. reads_alike n room xs s counts fits)
-
-start_counts : (n : ℕ) → Counts n (first_next (kind.Length n)) n []
-start_counts n = both (n == 0) (Counts n (first_next (kind.Length n)) n []) (λ test. rw test tt) (λ test. rw test (omega arith))
-
--- with the room that a body takes it is read as with all that it may have
-pub read_alike : (most : ℕ) (k : BodyKind) (bytes : List ℕ) → tells_more most k ≡ false
-    → reads_body (room_of_body most k) (body_start k) bytes ≡ reads_body most (body_start k) bytes
-unfolding body_start
-read_alike most kind.None bytes fits = sym (reads_alike 0 most bytes (body_start kind.None) tt (omega arith))
-read_alike most (kind.Length n) bytes fits =
-    let le : n ≤ most = grind (arith, nat_tests) in
-    sym (reads_alike n most bytes (body_start (kind.Length n)) (start_counts n) le)
-read_alike most kind.Chunked bytes fits = refl
-read_alike most kind.ToEnd bytes fits = refl
-
-pub in_alike : (most : ℕ) (k : BodyKind) (bytes : List ℕ) → tells_more most k ≡ false → body_in (room_of_body most k) k bytes ≡ body_in most k bytes
-unfolding body_in
-in_alike most k bytes fits = ap (λ p. p >>= ends_with) (read_alike most k bytes fits)

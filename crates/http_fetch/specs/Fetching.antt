@@ -23,13 +23,6 @@ abbrev pub tells_more : ℕ → BodyKind → Bool
 tells_more most (kind.Length n) = nat_lt most n
 tells_more most _ = false
 
--- the room that a body takes: its Content-Length, else as many bytes as it may have
-abbrev pub room_of_body : ℕ → BodyKind → ℕ
-room_of_body most kind.None = 0
-room_of_body most (kind.Length n) = n
-room_of_body most kind.Chunked = most
-room_of_body most kind.ToEnd = most
-
 -- these bytes, at most this many, are the body of a 200
 pub record GivesBody (most : ℕ) (t : Traffic) (b : List ℕ) : Type 0 where
   pub few : length b ≤ most

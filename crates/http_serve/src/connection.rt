@@ -89,7 +89,7 @@ fn take_turn<K: Link, S: Service>(
         Ok(reply) => reply,
         Err(_) => return Err(IoFault::Memory),
     };
-    match send_reply(alloc, link, reply, close) {
+    match send_reply::<K, S>(alloc, link, desk, reply, close) {
         Ok(()) => Ok(!close),
         Err(fault) => Err(fault),
     }

@@ -7,7 +7,7 @@ ghost use Rattle.dsy_base.specs.Counts.{CountsFaults};
 ghost use Rattle.dsy_base.specs.Links.{sends};
 ghost use Rattle.http_wire.specs.ReplyText.{reply_head};
 
-use crate::service::Reply;
+use crate::service::{Reply, Service};
 use dsy_base::fault::IoFault;
 use dsy_base::link::Link;
 use http_wire::reply_text::reply_text;
@@ -45,10 +45,28 @@ fn send_apart<K: Link>(link: &mut K, head: &[u8], body: &[u8]) -> Result<(), IoF
     }
 }
 
-// Sends a reply, behind which the connection is closed or isn't.
-pub(crate) fn send_reply<K: Link>(
+// Sends a head, and the body behind it, whose room has the head in front of the body afterwards, or not.
+fn send_both<K: Link>(link: &mut K, head: &[u8], body: &mut Vec<u8>) -> Result<(), IoFault>
+    ensures ok { OnOk result ((K.state link.new).traffic
+        ≡ option_map (sends (head.now ++ body.old.items)) (K.state link.old).traffic) }
+    ensures err { OnErr result (SendsSomeFront (head.now ++ body.old.items)
+        (K.state link.old).traffic (K.state link.new).traffic) }
+    ensures given { given_in (K.state link.new).traffic ≡ given_in (K.state link.old).traffic }
+    ensures faults { CountsFaults IoFault.Failed IoFault.Memory
+        (K.state link.old).faults (K.state link.new).faults result }
+{
+    if put_in_front(body, head) {
+        link.write(body.as_slice())
+    } else {
+        send_apart(link, head, body.as_slice())
+    }
+}
+
+// Sends a reply, behind which the connection is closed or isn't, and gives the desk the room of its body back.
+pub(crate) fn send_reply<K: Link, S: Service>(
     alloc: Global,
     link: &mut K,
+    desk: &mut S::Desk,
     reply: Reply,
     close: bool,
 ) -> Result<(), IoFault>
@@ -60,14 +78,13 @@ pub(crate) fn send_reply<K: Link>(
     ensures given { given_in (K.state link.new).traffic ≡ given_in (K.state link.old).traffic }
     ensures faults { CountsFaults IoFault.Failed IoFault.Memory
         (K.state link.old).faults (K.state link.new).faults result }
+    ensures untouched { desk.new ≡ desk.old }
 {
     let Ok(head) = reply_text(alloc, reply.status, reply.length, close) else {
         return Err(IoFault::Memory);
     };
     let mut body = reply.body;
-    if put_in_front(&mut body, head.as_bytes()) {
-        link.write(body.as_slice())
-    } else {
-        send_apart(link, head.as_bytes(), body.as_slice())
-    }
+    let sent = send_both(link, head.as_bytes(), &mut body);
+    S::take_back(desk, body);
+    sent
 }

@@ -98,6 +98,10 @@ pub trait Service {
         ensures changed { leaves desk.old desk.new }
         ensures faults { (state desk.old).faults ≤ (state desk.new).faults };
 
+    /// Takes the room of a reply's body back, once the reply was sent or wasn't.
+    fn take_back(desk: &mut Self::Desk, room: Vec<u8>)
+        ensures untouched { desk.new ≡ desk.old };
+
     /// What is as it was differs in nothing that counts.
     ghost same: { (s : Setting) (m : Files) → (protocol s).answering.alike m m };
 

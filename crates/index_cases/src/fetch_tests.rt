@@ -75,6 +75,8 @@ fn a_reply_without_an_index_is_told(rt: HostRuntime) {
     let short = b"HTTP/1.1 200 OK\r\nContent-Length: 143\r\n\r\n";
     let truncated = FetchFault::Bad(IndexFault::Truncated { at: 143 });
     gives_none(&rt, alloc, short, &INDEX_OF_ABC[..143], truncated);
+    let other = FetchFault::Bad(IndexFault::Head);
+    gives_none(&rt, alloc, OK_144, &[7; 144], other);
 }
 
 // The last byte of the index doesn't come. Of a body that is told to be longer than the longest index, none does.
@@ -83,6 +85,8 @@ fn a_reply_that_is_cut_short_or_too_long_is_refused(rt: HostRuntime) {
     let alloc = rt.alloc();
     let cut = FetchFault::Wire(WireFault::CutShort);
     gives_none(&rt, alloc, OK_144, &INDEX_OF_ABC[..143], cut);
+    // So it is told of one whose first bytes are those of no index.
+    gives_none(&rt, alloc, OK_144, &[7; 143], cut);
     let long = b"HTTP/1.1 200 OK\r\nContent-Length: 167772265\r\n\r\n";
     let too_long = FetchFault::Wire(WireFault::BodyTooLong);
     gives_none(&rt, alloc, long, b"", too_long);

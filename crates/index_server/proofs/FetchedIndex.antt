@@ -5,7 +5,8 @@ use Rattle.caibx_codec.specs.Listing.{Listing}
 use Rattle.caibx_fields.specs.Limits.{file_limit}
 use Rattle.dsy_base.specs.Links.{DialState, Traffic}
 use Rattle.http_read.specs.Asks.{IsFront}
-use Rattle.http_fetch.specs.Fetching.{CountsFetch, GivesBody, OnRefusal, RefusesGet}
+use Rattle.http_fetch.specs.Fetching.{CountsFetch, OnRefusal, RefusesGet}
+use Rattle.http_fetch.specs.Taking.{TakesBody}
 use Rattle.http_read.specs.Remotes.{AddsOne}
 use Rattle.http_read.specs.Replies.{SaysStatus}
 use Rattle.http_fetch.specs.declared.fetch.Unfetched.{Unfetched}
@@ -33,30 +34,31 @@ module _ (host : List ℕ) (port : ℕ) (path : List ℕ) (old new : DialState) 
   abbrev pub Adds : (Traffic → Type 0) → Type 0
   Adds P = AddsOne (λ t. (t.sent ≡ asks_index host port path) × P t) old.ended new.ended
 
-  pub whole : (A : Type 0) (v : A) (b : List ℕ) (r : Result Listing FetchFault) → ReadsFetched b r → Calls → Adds (λ t. GivesBody file_limit t b)
+  -- what the reply says of an index, where its body was taken
+  replies : (Taken : List ℕ → Type 0) (r : Result Listing FetchFault) → ((b : List ℕ) → Taken b → ReadsFetched b r) → Adds (TakesBody file_limit Taken)
+      → OnIndexReply r (Adds (λ t. RepliesOfIndex t r))
+  replies Taken (Ok l) reads adds =
+      adds_weaker old.ended new.ended (λ t is. (is.0, record { bytes = is.1.bytes; body = is.1.body; file = reads is.1.bytes is.1.taken })) adds
+  replies Taken (Err (fault.Bad f)) reads adds =
+      adds_weaker old.ended new.ended (λ t is.
+      let none = reads is.1.bytes is.1.taken in
+      (is.0, record { bytes = is.1.bytes; body = is.1.body; none = none.0; first = none.1 })) adds
+  replies Taken (Err fault.Memory) reads adds = tt
+  replies Taken (Err fault.Failed) reads adds = tt
+  replies Taken (Err fault.Absent) reads adds = adds_weaker old.ended new.ended (λ t is. absurd (reads is.1.bytes is.1.taken)) adds
+  replies Taken (Err (fault.Status status)) reads adds = adds_weaker old.ended new.ended (λ t is. absurd (reads is.1.bytes is.1.taken)) adds
+  replies Taken (Err (fault.Wire f)) reads adds = adds_weaker old.ended new.ended (λ t is. absurd (reads is.1.bytes is.1.taken)) adds
+
+  pub whole : (A : Type 0) (v : A) (Taken : List ℕ → Type 0) (r : Result Listing FetchFault) → r ≢ Err fault.Failed
+      → ((b : List ℕ) → Taken b → ReadsFetched b r) → Calls → Adds (TakesBody file_limit Taken)
       → CountsFetch unfetched.Failed old.faults new.faults (Ok v) → Fetched host port path old r new
-  whole A v b (Ok l) reads calls adds counts = record {
+  whole A v Taken r differs reads calls adds counts = record {
     calls = calls;
-    reply = adds_weaker old.ended new.ended (λ t is. (is.0, record { bytes = b; body = is.1; file = reads })) adds;
-    lacking = λ is. absurd (cc (is));
-    faults = still unfetched.Failed fault.Failed old.faults new.faults v (Ok l) (λ is. absurd (cc (is))) (λ is. absurd (cc (is))) counts;
+    reply = replies Taken r reads adds;
+    lacking = λ is. inr (adds_weaker old.ended new.ended (λ t one.
+        inr (record { size = one.1.body.body.size; body = one.1.body.body.body; says = one.1.body.body.says })) adds);
+    faults = still unfetched.Failed fault.Failed old.faults new.faults v r differs (λ is. absurd (cc (is))) counts;
   }
-  whole A v b (Err (fault.Bad f)) reads calls adds counts = record {
-    calls = calls;
-    reply = adds_weaker old.ended new.ended (λ t is. (is.0, record { bytes = b; body = is.1; none = reads.0; first = reads.1 })) adds;
-    lacking = λ is. absurd (cc (is));
-    faults = still unfetched.Failed fault.Failed old.faults new.faults v (Err (fault.Bad f)) (λ is. absurd (cc (is))) (λ is. absurd (cc (is))) counts;
-  }
-  whole A v b (Err fault.Memory) reads calls adds counts = record {
-    calls = calls;
-    reply = tt;
-    lacking = λ is. inr (adds_weaker old.ended new.ended (λ t is. inr (record { size = is.1.body.size; body = is.1.body.body; says = is.1.body.says })) adds);
-    faults = still unfetched.Failed fault.Failed old.faults new.faults v (Err fault.Memory) (λ is. absurd (cc (is))) (λ is. absurd (cc (is))) counts;
-  }
-  whole A v b (Err fault.Absent) reads calls adds counts = absurd reads
-  whole A v b (Err (fault.Status status)) reads calls adds counts = absurd reads
-  whole A v b (Err (fault.Wire f)) reads calls adds counts = absurd reads
-  whole A v b (Err fault.Failed) reads calls adds counts = absurd reads
 
   -- ---- none was
 

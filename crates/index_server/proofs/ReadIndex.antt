@@ -1,5 +1,5 @@
 -- What the bytes of a file are read as.
-use Rattle.std.proofs.Common.{◌≡◌, ℕ, ◌++◌, List, [], length, cond, Result, Ok, Err, Some, sym, subst}
+use Rattle.std.proofs.Common.{◌≡◌, ℕ, ◌++◌, List, [], length, cond, Option, Result, Ok, Err, Some, sym, subst}
 use Rattle.std.proofs.lemmas.List.{append-nil}
 use Rattle.caibx_codec.specs.Answers.{FindsIndex, Judges}
 use Rattle.caibx_codec.specs.Listing.{Listing}
@@ -9,7 +9,7 @@ use Rattle.caibx_codec.specs.declared.reading.ReadFault.{ReadFault}
 use Rattle.caibx_codec.specs.declared.reading.ReadFault.TheVariants as errors
 use Rattle.caibx_fields.specs.declared.fault.IndexFault.{IndexFault}
 use Rattle.caibx_fields.specs.declared.fault.IndexFault.TheVariants as faults
-use Rattle.index_server.specs.Finding.{ReadsAsIndex}
+use Rattle.index_server.specs.Finding.{HasReadIndex, ReadsAsIndex}
 
 -- the first fault is that of all bytes
 fault_in : (b : List ℕ) (f : IndexFault) → first_fault b ≡ Some f → index_in b ≡ Err f
@@ -34,3 +34,7 @@ fed_badly only b (errors.Bad f) first = λ l is.
     only b [] f l first (subst (λ (a : List ℕ). IsIndexFile a l) (sym (append-nil b)) is)
 fed_badly only b errors.Memory first = tt
 fed_badly only b errors.Over first = tt
+
+-- a reader that has met a fault
+pub fault_read : (P : Type 0) (o : Option ReadFault) (reader : Option (List ℕ)) (b : List ℕ) (e : ReadFault) → o ≡ Some e → (Judges {A = Unit {0}} b (Err e) → P) → HasReadIndex o reader b → P
+fault_read P o reader b e met more read = more (subst (λ x. HasReadIndex x reader b) met read)

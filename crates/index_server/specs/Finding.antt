@@ -1,5 +1,6 @@
 -- How the file of an index is read and found, and how a request is answered by it.
-use Rattle.std.specs.Prelude.{◌≡◌, ◌≢◌, ℕ, List, Option, IfOk, IfSome, Result, Ok, Err}
+use Rattle.std.specs.Prelude.{◌≡◌, ◌≢◌, ℕ, List, Option, Some, None, IfOk, IfSome, Result, Ok, Err}
+use Rattle.caibx_codec.specs.Answers.{Judges}
 use Rattle.caibx_codec.specs.Listing.{Listing}
 use Rattle.caibx_codec.specs.Reading.{index_in}
 use Rattle.caibx_codec.specs.declared.reading.ReadFault.{ReadFault}
@@ -20,6 +21,11 @@ ReadsAsIndex b (Ok l) = index_in b ≡ Ok l
 ReadsAsIndex b (Err (errors.Bad f)) = index_in b ≡ Err f
 ReadsAsIndex b (Err errors.Memory) = Unit {0}
 ReadsAsIndex b (Err errors.Over) = ⊥
+
+-- a reader and the fault that it has met: it was fed these bytes in all, or shows the first fault of them
+abbrev pub HasReadIndex : Option ReadFault → Option (List ℕ) → List ℕ → Type 0
+HasReadIndex None reader b = reader ≡ Some b
+HasReadIndex (Some e) reader b = Judges {A = Unit {0}} b (Err e)
 
 -- the index of this name was looked for, while the folder came from one state to the other
 pub record FindsFile (name : List ℕ) (old : IndexFolder) (found : Result (Option (List ℕ)) IoFault)

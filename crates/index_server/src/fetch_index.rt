@@ -1,9 +1,10 @@
 //! An index fetched from a server. Sizes are in bytes.
 
-ghost use Rattle.std.specs.Prelude.{◌≡◌};
+ghost use Rattle.std.specs.Prelude.{◌≡◌, ◌≢◌, ℕ, List, Err};
 ghost use Rattle.index_server.specs.Fetching.{Fetched, ReadsFetched, fetch_fault};
+ghost use Rattle.index_server.specs.Finding.{HasReadIndex};
 
-use crate::index_file::index_of;
+use crate::file_taker::FileTaker;
 use caibx_codec::index::Index;
 use caibx_codec::reading::ReadFault;
 use caibx_fields::fault::IndexFault;
@@ -43,10 +44,11 @@ fn fetch_fault(unfetched: Unfetched) -> FetchFault
 }
 
 // The index whose file was fetched.
-fn read_fetched(alloc: Global, file: &[u8]) -> Result<Index, FetchFault>
-    ensures { ReadsFetched file.now result }
+fn read_fetched(file: FileTaker) -> Result<Index, FetchFault>
+    ensures value { (b : List ℕ) → HasReadIndex file.fault file.reader b → ReadsFetched b result }
+    ensures only { result ≢ Err FetchFault.Failed }
 {
-    match index_of(alloc, file) {
+    match file.finish() {
         Ok(index) => Ok(index),
         Err(ReadFault::Bad(fault)) => Err(FetchFault::Bad(fault)),
         Err(ReadFault::Over | ReadFault::Memory) => Err(FetchFault::Memory),
@@ -64,8 +66,17 @@ pub fn fetch_index<D: Dial>(
 ) -> Result<Index, FetchFault>
     ensures ends { Fetched host.now port path.now (D.state dial.old) result (D.state dial.new) }
 {
-    match fetch(alloc, dial, host, port, path, FILE_LIMIT as usize) {
-        Ok(file) => read_fetched(alloc, file.as_slice()),
+    let mut file = FileTaker::new(alloc);
+    match fetch(
+        alloc,
+        dial,
+        host,
+        port,
+        path,
+        FILE_LIMIT as usize,
+        &mut file,
+    ) {
+        Ok(()) => read_fetched(file),
         Err(unfetched) => Err(fetch_fault(unfetched)),
     }
 }

@@ -1,53 +1,43 @@
 //! The files of indexes. Sizes are in bytes.
 
 ghost use Rattle.std.specs.Prelude.{◌≡◌, ◌≢◌, ◌<◌, ◌≤◌, length, true, Err, IfOk, IfSome, OnOk, Some};
-ghost use Rattle.caibx_codec.specs.Answers.{FindsIndex};
 ghost use Rattle.caibx_fields.specs.Limits.{file_limit};
 ghost use Rattle.chunk_store.specs.Causes.{CountsCause};
 ghost use Rattle.dsy_base.specs.Maps.{ReadGives};
 ghost use Rattle.index_server.specs.Answers.{IsSpelled, index_held, is_index, index_folder};
-ghost use Rattle.index_server.specs.Finding.{FindsFile, ReadsAsIndex};
+ghost use Rattle.index_server.specs.Finding.{FindsFile};
 
 use caibx_codec::check::check_index;
-use caibx_codec::index::Index;
-use caibx_codec::laws::fault_stays;
-use caibx_codec::reader::IndexReader;
-use caibx_codec::reading::ReadFault;
 use caibx_fields::format::FILE_LIMIT;
 use dsy_base::fault::{FileFault, IoFault};
 use dsy_base::look::Look;
 use std::alloc::{AllocError, Global};
 use std::marker::Model;
+use std::mem::replace;
 
-/// How many bytes of a file are read at first, and how many more each time: 256 KiB, an index of 6,500 chunks.
-const FIRST_READ: usize = 262_144;
+/// How many bytes of a file there is room for at first, and how many more each time: 256 KiB, an index of 6,500 chunks.
+const STEP: usize = 262_144;
 
-// A buffer of this size.
-fn buffer_of(alloc: Global, size: usize) -> Result<Vec<u8>, AllocError>
-    ensures room { IfOk result (λ v. length v.items ≡ size) }
+// Gives the buffer at least the length of a step, and at most that of the longest file.
+fn fit(buffer: &mut Vec<u8>) -> Result<(), AllocError>
+    ensures room { OnOk result (length buffer.new.items ≤ file_limit) }
 {
-    vec![in alloc; 0u8; size]
+    buffer.resize(buffer.len().max(STEP).min(FILE_LIMIT as usize), 0)
 }
 
-// Makes the buffer longer by as many bytes, or as many as it may have. What stands in it is to be read anew. A folder
-// of the operating system tells by the file's size that it has more bytes, and reads nothing, so a file is read once.
-fn grow(alloc: Global, buffer: &mut Vec<u8>) -> Result<(), AllocError>
+// Makes the buffer longer by a step, or up to the longest file. What stands in it is to be read anew. A folder of the
+// operating system tells by the file's size that it has more bytes, and reads nothing, so a file is read once.
+fn grow(buffer: &mut Vec<u8>) -> Result<(), AllocError>
     requires room { length buffer.old.items < file_limit }
     ensures ok { OnOk result (length buffer.old.items < length buffer.new.items) }
     ensures room { length buffer.new.items ≤ file_limit }
 {
-    let more = buffer_of(alloc, FIRST_READ.min(FILE_LIMIT as usize - buffer.len()))?;
-    buffer.extend_from_slice(more.as_slice())
+    buffer.resize((buffer.len() + STEP).min(FILE_LIMIT as usize), 0)
 }
 
 // Reads the file of this name to the front of the buffer, which becomes as long as is needed. `Longer`: it has more
 // bytes than the longest index file.
-fn read_whole<F: Look>(
-    alloc: Global,
-    folder: &mut F,
-    name: &str,
-    buffer: &mut Vec<u8>,
-) -> Result<usize, FileFault>
+fn read_whole<F: Look>(folder: &mut F, name: &str, buffer: &mut Vec<u8>) -> Result<usize, FileFault>
     requires room { length buffer.old.items ≤ file_limit }
     ensures room { length buffer.new.items ≤ file_limit }
     ensures bytes { IfSome (F.files folder.old) (λ m. ReadGives (m name.now) result buffer.new.items) }
@@ -63,25 +53,12 @@ fn read_whole<F: Look>(
             Err(FileFault::Longer) => {}
             answer => return answer,
         }
-        match grow(alloc, buffer) {
+        match grow(buffer) {
             Ok(()) => {}
             Err(_) => return Err(FileFault::Memory),
         }
     }
     folder.read(name, buffer.as_mut_slice())
-}
-
-/// The index whose file these bytes are.
-pub(crate) fn index_of(alloc: Global, bytes: &[u8]) -> Result<Index, ReadFault>
-    ensures exactly { FindsIndex bytes.now result }
-    ensures first { ReadsAsIndex bytes.now result }
-{
-    fault_stays();
-    let mut reader = IndexReader::new(alloc);
-    match reader.feed(bytes) {
-        Ok(()) => reader.finish(),
-        Err(fault) => Err(fault),
-    }
 }
 
 /// Whether the bytes are the file of a valid index.
@@ -111,34 +88,38 @@ impl Model for IndexFile {
 
 impl IndexFile {
     // These bytes, if they are the file of a valid index.
-    fn of(bytes: Vec<u8>) -> Option<IndexFile>
-        requires size { length bytes.items ≤ file_limit }
-        ensures value { result ≡ index_held (Some bytes.items) }
+    fn of(alloc: Global, bytes: &mut Vec<u8>) -> Option<IndexFile>
+        requires size { length bytes.old.items ≤ file_limit }
+        ensures value { result ≡ index_held (Some bytes.old.items) }
     {
         if is_index(bytes.as_slice()) {
-            Some(IndexFile { bytes })
+            Some(IndexFile {
+                bytes: replace(bytes, Vec::new(alloc)),
+            })
         } else {
             None
         }
     }
 
-    /// The file of this name, if it is one of a valid index.
+    /// The file of this name, if it is one of a valid index. It is read into this room, which such a
+    /// file takes away.
     pub(crate) fn read<F: Look>(
         alloc: Global,
         folder: &mut F,
         name: &str,
+        room: &mut Vec<u8>,
     ) -> Result<Option<IndexFile>, IoFault>
         ensures found { FindsFile name.now (index_folder F.files F.faults folder.old) result
             (index_folder F.files F.faults folder.new) }
         ensures place { F.place folder.new ≡ F.place folder.old }
     {
-        let Ok(mut bytes) = buffer_of(alloc, FIRST_READ) else {
+        if fit(room).is_err() {
             return Err(IoFault::Memory);
-        };
-        match read_whole(alloc, folder, name, &mut bytes) {
+        }
+        match read_whole(folder, name, room) {
             Ok(n) => {
-                bytes.truncate(n);
-                Ok(IndexFile::of(bytes))
+                room.truncate(n);
+                Ok(IndexFile::of(alloc, room))
             }
             Err(FileFault::Absent | FileFault::Longer) => Ok(None),
             Err(FileFault::Failed) => Err(IoFault::Failed),

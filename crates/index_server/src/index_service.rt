@@ -82,4 +82,8 @@ impl<F: Folder> Service for IndexService<F> {
             _ => desk.apply(&request.act, body),
         }
     }
+
+    fn take_back(desk: &mut IndexState<F>, room: Vec<u8>) {
+        desk.take_back(room);
+    }
 }

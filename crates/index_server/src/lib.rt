@@ -3,6 +3,7 @@
 #![tactic(auto)]
 
 pub mod fetch_index;
+mod file_taker;
 mod index_file;
 pub mod index_service;
 pub mod laws;

@@ -65,12 +65,13 @@ impl ReadMethod {
 }
 
 /// A folder of indexes, which answers requests one by one. Contracts see it as the folder, and whether indexes may be
-/// put.
+/// put. It keeps the room of the longest file that it has read.
 #[derive(Drop)]
 pub struct IndexState<F: Folder> {
     alloc: Global,
     folder: F,
     writable: bool,
+    room: Vec<u8>,
 }
 
 impl<F: Folder> Model for IndexState<F> {
@@ -90,6 +91,7 @@ impl<F: Folder> IndexState<F> {
             alloc,
             folder,
             writable,
+            room: Vec::new(alloc),
         }
     }
 
@@ -106,6 +108,15 @@ impl<F: Folder> IndexState<F> {
         self.writable
     }
 
+    /// Takes the room of a reply's body back, if it is the greatest.
+    pub(crate) fn take_back(&mut self, room: Vec<u8>)
+        ensures untouched { self.new ≡ self.old }
+    {
+        if room.capacity() > self.room.capacity() {
+            self.room = room;
+        }
+    }
+
     // Looks for the index of this name, and tells of it by this method.
     fn find(&mut self, method: ReadMethod, name: &str) -> Result<Reply, Memory>
         ensures only { IfOk result (λ r. (body : List ℕ)
@@ -119,7 +130,7 @@ impl<F: Folder> IndexState<F> {
         ensures faults { F.faults self.old.folder ≤ F.faults self.new.folder }
         ensures kept { self.new.writable ≡ self.old.writable }
     {
-        let found = IndexFile::read(self.alloc, &mut self.folder, name);
+        let found = IndexFile::read(self.alloc, &mut self.folder, name, &mut self.room);
         method.reply(self.alloc, found)
     }
 

@@ -10,6 +10,7 @@ use dsy_base::dial::Dial;
 use dsy_base::fault::{IoFault, Memory};
 use dsy_base::name::Name;
 use http_fetch::fetch::fetch;
+use http_fetch::taker::Taker;
 use http_frames::fault::WireFault;
 use http_read::fault::BadReply;
 use http_read::store::HttpStore;
@@ -82,6 +83,29 @@ impl Dial for Noting {
     ghost told = { λ _. refl };
 
     ghost alike = { λ h. h };
+}
+
+// Keeps what it takes, and counts how often.
+#[derive(Drop)]
+struct Keeping {
+    bytes: Vec<u8>,
+    times: u64,
+}
+
+impl Taker for Keeping {
+    ghost has_taken = { λ s b. Unit {0} };
+
+    fn take(&mut self, piece: &[u8]) {
+        let _ = self.bytes.extend_from_slice(piece);
+        self.times = self.times.saturating_add(1);
+    }
+}
+
+fn nothing_kept(alloc: Global) -> Keeping {
+    Keeping {
+        bytes: Vec::new(alloc),
+        times: 0,
+    }
 }
 
 // A dialer of one connection, over which the reply comes in pieces of this size.
@@ -245,9 +269,28 @@ fn a_fetch_dials_its_own_server(rt: HostRuntime) {
         inner: dialer(&rt, alloc, CHUNKED, 4096),
         elsewhere: false,
     };
-    let body = ok(&rt, fetch(alloc, &mut dial, "localhost", 8080, "/a", 3));
-    same(&rt, body.as_slice(), &b"abc"[..]);
+    let mut body = nothing_kept(alloc);
+    ok(
+        &rt,
+        fetch(alloc, &mut dial, "localhost", 8080, "/a", 3, &mut body),
+    );
+    same(&rt, body.bytes.as_slice(), &b"abc"[..]);
     same(&rt, dial.elsewhere, false);
+}
+
+// The head has 38 bytes, and 2 of the body come with it. What follows the body isn't taken.
+#[test]
+fn a_body_by_length_is_taken_as_it_comes(rt: HostRuntime) {
+    let alloc = rt.alloc();
+    let reply = b"HTTP/1.1 200 OK\r\nContent-Length: 7\r\n\r\nabcdefgh";
+    let mut dial = dialer(&rt, alloc, reply, 4);
+    let mut body = nothing_kept(alloc);
+    ok(
+        &rt,
+        fetch(alloc, &mut dial, "localhost", 8080, "/a", 7, &mut body),
+    );
+    same(&rt, body.bytes.as_slice(), &b"abcdefg"[..]);
+    same(&rt, body.times, 3);
 }
 
 #[test]

@@ -1,9 +1,10 @@
-use Rattle.std.proofs.Common.{◌≡◌, Bool, true, false, Ok, ◌++◌, take, refl, sym, ap, ◌∙◌}
+use Rattle.std.proofs.Common.{◌≡◌, Bool, true, false, Ok, ◌++◌, take, refl, sym, ap, subst, ◌∙◌}
 use Rattle.std.specs.Prelude.{not}
 use Rattle.http_wire.specs.ReplyText.{reply_head}
 use Rattle.http_serve.specs.Answers.{answer_in}
 use Rattle.http_serve.specs.Received.{asked_of}
 use Rattle.http_serve.specs.Streams.{stream_in}
+use Rattle.http_serve.specs.Turns.{ConnectionFails, Lingers, RequestsStop, Stays}
 use Rattle.http_serve.proofs.Taking.{told_more, turn_broken, turn_closed, turn_cut, turn_lacks, turn_lingers, turn_none, turn_open, turn_unanswered}
 use Rattle.http_serve.proofs.connection.take_turn.Goals as goal
 
@@ -60,9 +61,12 @@ returns-in-Ok-send_reply-clause-open g c = λ h.
     let shut : close ≡ p.reading.closes c.in-Ok-Some.received.request = c.closes-close.ensures.value in
     let spelled = ap (λ t. reply_head c.in-Ok.reply.status c.in-Ok.reply.length t ++ c.in-Ok.reply.body.items) shut in
     let stays : not close ≡ true = cc in
-    turn_open p same q (answer_in c.in-Ok.reply) a b _ (g.S.Service.state c.args.desk.now) (g.S.Service.state c.answer.new.desk) bytes
+    let end = stream_in c.receive_request.new.waiting.items (g.K.Link.state c.send_reply.new.link).traffic in
+    let told = ap g.S.Service.state (sym c.send_reply.ensures.untouched) in
+    subst (λ d. Stays p a (g.S.Service.state c.args.desk.now) end d) told
+    (turn_open p same q (answer_in c.in-Ok.reply) a b _ (g.S.Service.state c.args.desk.now) (g.S.Service.state c.answer.new.desk) bytes
     found c.in-Ok.ensures.may c.in-Ok.ensures.ok
-    (told_more c.receive_request.new.waiting.items bytes (g.K.Link.state c.receive_request.new.link).traffic (g.K.Link.state c.send_reply.new.link).traffic c.in-Ok-send_reply.ensures.ok) spelled (sym shut ∙ stays_open close stays)
+    (told_more c.receive_request.new.waiting.items bytes (g.K.Link.state c.receive_request.new.link).traffic (g.K.Link.state c.send_reply.new.link).traffic c.in-Ok-send_reply.ensures.ok) spelled (sym shut ∙ stays_open close stays))
 
 pub returns-in-Ok-send_reply-clause-closed : goal.returns-in-Ok-send_reply-clause-closed
 returns-in-Ok-send_reply-clause-closed g c = λ h.
@@ -77,9 +81,12 @@ returns-in-Ok-send_reply-clause-closed g c = λ h.
     let shut : close ≡ p.reading.closes c.in-Ok-Some.received.request = c.closes-close.ensures.value in
     let spelled = ap (λ t. reply_head c.in-Ok.reply.status c.in-Ok.reply.length t ++ c.in-Ok.reply.body.items) shut in
     let closed : not close ≡ false = cc in
-    turn_closed p same q (answer_in c.in-Ok.reply) a b _ (g.S.Service.state c.args.desk.now) (g.S.Service.state c.answer.new.desk) bytes
+    let end = stream_in c.receive_request.new.waiting.items (g.K.Link.state c.send_reply.new.link).traffic in
+    let told = ap g.S.Service.state (sym c.send_reply.ensures.untouched) in
+    subst (λ d. RequestsStop p a (g.S.Service.state c.args.desk.now) end d) told
+    (turn_closed p same q (answer_in c.in-Ok.reply) a b _ (g.S.Service.state c.args.desk.now) (g.S.Service.state c.answer.new.desk) bytes
     found c.in-Ok.ensures.may c.in-Ok.ensures.ok
-    (told_more c.receive_request.new.waiting.items bytes (g.K.Link.state c.receive_request.new.link).traffic (g.K.Link.state c.send_reply.new.link).traffic c.in-Ok-send_reply.ensures.ok) spelled (sym shut ∙ is_closed close closed)
+    (told_more c.receive_request.new.waiting.items bytes (g.K.Link.state c.receive_request.new.link).traffic (g.K.Link.state c.send_reply.new.link).traffic c.in-Ok-send_reply.ensures.ok) spelled (sym shut ∙ is_closed close closed))
 
 pub returns-clause-cut : goal.returns-clause-cut
 returns-clause-cut g c = λ h.
@@ -93,9 +100,12 @@ returns-clause-cut g c = λ h.
     let shut : c.closes-close.result ≡ p.reading.closes c.in-Ok-Some.received.request = c.closes-close.ensures.value in
     let spelled = ap (λ t. reply_head c.in-Ok.reply.status c.in-Ok.reply.length t ++ c.in-Ok.reply.body.items) shut in
     let n = c.in-Err-send_reply.ensures.err.0 in
-    turn_broken p same q (answer_in c.in-Ok.reply) a b _ (g.S.Service.state c.args.desk.now) (g.S.Service.state c.answer.new.desk) (take n bytes)
+    let end = stream_in c.receive_request.new.waiting.items (g.K.Link.state c.send_reply.new.link).traffic in
+    let told = ap g.S.Service.state (sym c.send_reply.ensures.untouched) in
+    subst (λ d. ConnectionFails p a (g.S.Service.state c.args.desk.now) end d) told
+    (turn_broken p same q (answer_in c.in-Ok.reply) a b _ (g.S.Service.state c.args.desk.now) (g.S.Service.state c.answer.new.desk) (take n bytes)
     found c.in-Ok.ensures.may c.in-Ok.ensures.ok n
-    (told_more c.receive_request.new.waiting.items (take n bytes) (g.K.Link.state c.receive_request.new.link).traffic (g.K.Link.state c.send_reply.new.link).traffic c.in-Err-send_reply.ensures.err.1) (ap (take n) spelled)
+    (told_more c.receive_request.new.waiting.items (take n bytes) (g.K.Link.state c.receive_request.new.link).traffic (g.K.Link.state c.send_reply.new.link).traffic c.in-Err-send_reply.ensures.err.1) (ap (take n) spelled))
 
 pub returns-clause-lacking : goal.returns-clause-lacking
 returns-clause-lacking g c = λ h.
@@ -109,6 +119,9 @@ returns-clause-lacking g c = λ h.
     let shut : c.closes-close.result ≡ p.reading.closes c.in-Ok-Some.received.request = c.closes-close.ensures.value in
     let spelled = ap (λ t. reply_head c.in-Ok.reply.status c.in-Ok.reply.length t ++ c.in-Ok.reply.body.items) shut in
     let n = c.in-Err-send_reply.ensures.err.0 in
-    turn_lingers p same q (answer_in c.in-Ok.reply) a b _ (g.S.Service.state c.args.desk.now) (g.S.Service.state c.answer.new.desk) (take n bytes)
+    let end = stream_in c.receive_request.new.waiting.items (g.K.Link.state c.send_reply.new.link).traffic in
+    let told = ap g.S.Service.state (sym c.send_reply.ensures.untouched) in
+    subst (λ d. Lingers p a (g.S.Service.state c.args.desk.now) end d) told
+    (turn_lingers p same q (answer_in c.in-Ok.reply) a b _ (g.S.Service.state c.args.desk.now) (g.S.Service.state c.answer.new.desk) (take n bytes)
     found c.in-Ok.ensures.may c.in-Ok.ensures.ok n
-    (told_more c.receive_request.new.waiting.items (take n bytes) (g.K.Link.state c.receive_request.new.link).traffic (g.K.Link.state c.send_reply.new.link).traffic c.in-Err-send_reply.ensures.err.1) (ap (take n) spelled)
+    (told_more c.receive_request.new.waiting.items (take n bytes) (g.K.Link.state c.receive_request.new.link).traffic (g.K.Link.state c.send_reply.new.link).traffic c.in-Err-send_reply.ensures.err.1) (ap (take n) spelled))

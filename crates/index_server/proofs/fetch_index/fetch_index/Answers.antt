@@ -1,16 +1,16 @@
-use Rattle.std.proofs.Common.{List, ℕ, Err, ap, subst, sym}
+use Rattle.std.proofs.Common.{Err, ap, subst, sym}
 use Rattle.index_server.proofs.FetchedIndex.{none, whole}
-use Rattle.index_server.specs.Fetching.{Fetched, ReadsFetched}
+use Rattle.index_server.specs.Fetching.{Fetched}
+use Rattle.index_server.specs.Finding.{HasReadIndex}
 use Rattle.index_server.specs.declared.fetch_index.FetchFault.{FetchFault}
 use Rattle.index_server.proofs.fetch_index.fetch_index.Goals as goal
 
 pub returns-in-Ok : goal.returns-in-Ok
-returns-in-Ok g c =
-    let reads = subst (λ (b : List ℕ). ReadsFetched b c.read_fetched.result) c.as_slice.ensures.value c.read_fetched.ensures in
-    record {
-      ends = whole c.args.host.now c.args.port c.args.path.now (g.D.Dial.state c.args.dial.now) (g.D.Dial.state c.fetch.new.dial)
-          _ c.in-Ok.file c.in-Ok.file.items c.read_fetched.result reads c.fetch.ensures.calls c.in-Ok.ensures.ok c.in-Ok.ensures.faults;
-    }
+returns-in-Ok g c = record {
+  ends = whole c.args.host.now c.args.port c.args.path.now (g.D.Dial.state c.args.dial.now) (g.D.Dial.state c.fetch.new.dial)
+      _ c.in-Ok.field-0 (λ b. HasReadIndex c.fetch.new.taker.fault c.fetch.new.taker.reader b) c.read_fetched.result
+      c.read_fetched.ensures.only c.read_fetched.ensures.value c.fetch.ensures.calls c.in-Ok.ensures.ok c.in-Ok.ensures.faults;
+}
 
 pub returns-in-Err : goal.returns-in-Err
 returns-in-Err g c =
