@@ -60,7 +60,8 @@ module _ {L D K : Type 0} (files : L → Option (Map (List ℕ))) (place : L →
       let others = nothing_in none xs ys rest in
       (λ i. first i ∷ others i)
 
-  files_alike : (tells looks : Bool) → ((l : L) → is_some (files l) ≡ looks) → (IsTrue looks → IsTrue tells) → (folders : Option (Map (Map (List ℕ)))) → is_some folders ≡ tells → (names : List (List Location)) (xs ys : List (Grouped (AnyStore L D K))) → map (locations_in place) xs ≡ map (locations_in place) ys
+  -- and their folders have the same files
+  pub files_alike : (tells looks : Bool) → ((l : L) → is_some (files l) ≡ looks) → (IsTrue looks → IsTrue tells) → (folders : Option (Map (Map (List ℕ)))) → is_some folders ≡ tells → (names : List (List Location)) (xs ys : List (Grouped (AnyStore L D K))) → map (locations_in place) xs ≡ map (locations_in place) ys
       → IfSome folders (λ m. map (files_in files) xs ≡ map (map (location_files m)) names) → IfSome folders (λ m. map (files_in files) ys ≡ map (map (location_files m)) names) → map (files_in files) xs ≡ map (files_in files) ys
   files_alike tells looks told seen (Some m) tells_are names xs ys same one two = one ∙ sym two
   files_alike tells looks told seen None tells_are names xs ys same one two = nothing_in (λ l. untold_files tells looks (files l) (told l) seen (sym tells_are)) xs ys same

@@ -1,5 +1,5 @@
 -- What a group keeps and counts as one store.
-use Rattle.std.proofs.Common.{◌≡◌, ◌≢◌, inl, inr, ℕ, zero, suc, ◌+◌, ◌*◌, ◌/◌, ◌≤◌, ◌<◌, List, [], ◌∷◌, ◌++◌, length, max, Option, Some, None, IfSome, IsTrue, is_some, take, drop, refl, sym, subst, ap, ◌∙◌, arith}
+use Rattle.std.proofs.Common.{◌≡◌, ◌≢◌, inl, inr, ℕ, zero, suc, ◌+◌, ◌*◌, ◌/◌, ◌≤◌, ◌<◌, List, [], ◌∷◌, ◌++◌, length, max, Option, Some, None, IfSome, IsTrue, false, is_some, take, drop, refl, sym, subst, ap, ◌∙◌, arith}
 use Rattle.std.specs.List.{AllByRecursion, AllZip}
 use Rattle.std.proofs.Math.Nat.{add-div_right, add-mul, div-mul-le_self, mod-lt, mul-le-mul_right}
 use Rattle.std.proofs.Math.Seq.{drop-append_seam, take-append_seam}
@@ -9,7 +9,7 @@ use Rattle.chunk_store.specs.Said.{AskedOnce, KeepsOf}
 use Rattle.chunk_store.specs.declared.store.Store.{Ghosts as StoreWords}
 use Rattle.dsy_base.specs.Counts.{raised}
 use Rattle.store_group.specs.Answers.{AnswersAt, AnswersFirst, AnswersRound, AskedUpTo, FailsAll, AnswerSays, ask_for, times_for, times_other}
-use Rattle.store_group.specs.Groups.{Grouped, as_store, SomeStore, asked_name, files_code, group_count, most, of_one, places_of, questions_of, said_of, sent_of, told_file_code}
+use Rattle.store_group.specs.Groups.{Grouped, as_store_by, SomeStore, asked_name, files_code, group_count, group_place, most, of_one, places_of, questions_of, said_of, sent_of, told_file_code}
 use Rattle.store_group.specs.declared.answer.Answer.{Answer}
 use Rattle.store_group.specs.declared.answer.Answer.TheVariants as answer
 use Rattle.store_group.specs.declared.answer.Question.{Question}
@@ -269,7 +269,7 @@ of_all (s ∷ stores) (inr h) = of_all stores h
 
 module _ {S : Type 0} (store : StoreWords S) (id : List ℕ) (out : List ℕ) (g h : Grouped S) where
   -- what the store says that answered, the group says
-  pub group_says : (q : Question) (a : Answer) (k : ℕ) → AnswersAt store q id k g.stores h.stores out a → AnswerSays (as_store store) q id g h out a
+  pub group_says : (q : Question) (a : Answer) (k : ℕ) → AnswersAt store q id k g.stores h.stores out a → AnswerSays (as_store_by false store) q id g h out a
   group_says question.Get (answer.Given n) k at = (
     of_all h.stores (some_answers store question.Get id out (answer.Given n) (λ t. n ≤ length out) (λ s t says. says.0) k g.stores h.stores at),
     some_answers store question.Get id out (answer.Given n) (λ t. (store.said t).shown id (take n out)) (λ s t says. says.1) k g.stores h.stores at,
@@ -296,6 +296,11 @@ module _ {S : Type 0} (store : StoreWords S) (id : List ℕ) (out : List ℕ) (g
   group_says question.Has answer.Failed k at = tt
   group_says question.Has answer.Memory k at = of_all h.stores (some_answers store question.Has id out answer.Memory (λ t. IsTrue store.may_lack_memory) (λ s t says. says) k g.stores h.stores at)
 
+module _ {S : Type 0} (store : StoreWords S) (id : List ℕ) (g h : Grouped S) (same : h.retries ≡ g.retries) where
+  pub group_place_kept : (q : Question) → AllZip (AskedUpTo store q (g.retries + 1) id) g.stores h.stores → group_place store.place h ≡ group_place store.place g
+  group_place_kept q turns =
+      ap (λ (n : ℕ). n ∷ places_of store.place h.stores) same ∙ ap (λ (l : List ℕ). g.retries ∷ l) (place_kept (AskedUpTo store q (g.retries + 1) id) store.place (λ s t r. r.place) g.stores h.stores turns)
+
 module _ {S : Type 0} (store : StoreWords S) (id : List ℕ) (g h : Grouped S) (same : h.retries ≡ g.retries) (counts : g.failed ≤ h.failed) where
   abbrev Turned : Question → S → S → Type 0
   Turned q = AskedUpTo store q (g.retries + 1) id
@@ -309,13 +314,13 @@ module _ {S : Type 0} (store : StoreWords S) (id : List ℕ) (g h : Grouped S) (
   once count asked = subst (λ (f : List ℕ → ℕ). AskedOnce (group_count count g) f id) (again count) asked
 
   -- the group was asked once
-  pub group_asked : (q : Question) → AllZip (AskedUpTo store q (g.retries + 1) id) g.stores h.stores → AskedUpTo (as_store store) q 1 id g h
+  pub group_asked : (q : Question) → AllZip (AskedUpTo store q (g.retries + 1) id) g.stores h.stores → AskedUpTo (as_store_by false store) q 1 id g h
   group_asked question.Get turns =
       let asked = once store.asked (turns_once store question.Get g.retries id g.stores h.stores turns) in
       record {
         holds = one_kept (Turned question.Get) store.holds (λ s t r. r.holds) g.stores h.stores turns;
         folder = one_kept (Turned question.Get) store.folder (λ s t r. r.folder) g.stores h.stores turns;
-        place = ap (λ (n : ℕ). n ∷ places_of store.place h.stores) same ∙ ap (λ (l : List ℕ). g.retries ∷ l) (place_kept (Turned question.Get) store.place (λ s t r. r.place) g.stores h.stores turns);
+        place = group_place_kept store id g h same question.Get turns;
         said = said_kept store question.Get (g.retries + 1) id g.stores h.stores turns;
         sends = sent_kept store question.Get (g.retries + 1) id g.stores h.stores turns;
         this = asked.this;
@@ -330,7 +335,7 @@ module _ {S : Type 0} (store : StoreWords S) (id : List ℕ) (g h : Grouped S) (
       record {
         holds = one_kept (Turned question.Has) store.holds (λ s t r. r.holds) g.stores h.stores turns;
         folder = one_kept (Turned question.Has) store.folder (λ s t r. r.folder) g.stores h.stores turns;
-        place = ap (λ (n : ℕ). n ∷ places_of store.place h.stores) same ∙ ap (λ (l : List ℕ). g.retries ∷ l) (place_kept (Turned question.Has) store.place (λ s t r. r.place) g.stores h.stores turns);
+        place = group_place_kept store id g h same question.Has turns;
         said = said_kept store question.Has (g.retries + 1) id g.stores h.stores turns;
         sends = sent_kept store question.Has (g.retries + 1) id g.stores h.stores turns;
         this = asked.this;

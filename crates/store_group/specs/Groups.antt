@@ -1,15 +1,17 @@
--- What contracts see of a group of stores, and what it says as one store. A group of one store tells what that store
--- tells. Several stores tell nothing together, since any of them may answer.
-use Rattle.std.specs.Prelude.{◌≡◌, ◌≢◌, ◌⊎◌, ℕ, ◌+◌, ◌*◌, ◌/◌, ◌≤◌, List, [], ◌∷◌, ◌++◌, length, max, false}
-use Rattle.std.specs.Prelude.{Option, Some, None, IfSome}
+-- What contracts see of a group of stores, and what it says as one store. Where its stores never fail, by their type,
+-- the active one stays so and answers alone, and the group tells what that one tells. Else a group of one store tells
+-- what that store tells, and several tell nothing together, since any of them may answer.
+use Rattle.std.specs.Prelude.{◌≡◌, ◌≢◌, ◌⊎◌, ℕ, ◌+◌, ◌*◌, ◌/◌, ◌≤◌, List, [], ◌∷◌, ◌++◌, length, max, slice_get}
+use Rattle.std.specs.Prelude.{Bool, true, false, ◌&&◌, IsTrue, IsSome, Option, Some, None, IfSome, refl}
 use Rattle.std.proofs.Common.{inl, inr, ap, arith, ◌∙◌}
 use Rattle.std.proofs.Math.Nat.{div-eq_of_lt}
+use Rattle.std.proofs.lemmas.Bool.{false≢true}
 use Rattle.std.specs.List.{AllByRecursion, AllZip}
 use Rattle.chunk_store.specs.Asks.{Ask, Get, Has, Put, Sent}
 use Rattle.chunk_store.specs.Folders.{chunks}
-use Rattle.chunk_store.specs.Said.{Said, SaysMap}
+use Rattle.chunk_store.specs.Said.{Said, SaysMap, said_by, says_map}
 use Rattle.chunk_store.specs.declared.store.Store.{Ghosts as StoreWords}
-use Rattle.dsy_base.specs.Counts.{raised}
+use Rattle.dsy_base.specs.Counts.{Rose, raised}
 use Rattle.dsy_base.specs.Maps.{Map}
 use Rattle.store_group.specs.Answers.{AnswersRound, AskedUpTo, FailsAll, AnswerSays}
 use Rattle.store_group.specs.declared.answer.Answer.{Answer}
@@ -99,21 +101,78 @@ places_of place (s ∷ stores) = length (place s) ∷ place s ++ places_of place
 abbrev pub group_place : {S : Type 0} → (S → List ℕ) → Grouped S → List ℕ
 group_place place g = g.retries ∷ places_of place g.stores
 
--- the group as one store. It has failed where all of its stores have
-abbrev pub as_store : {S : Type 0} → StoreWords S → StoreWords (Grouped S)
-as_store store = record {
-  holds = λ g. of_one store.holds g.stores;
-  folder = λ g. of_one store.folder g.stores;
-  said = λ g. said_of store.said g.stores;
+-- ---- a group whose stores never fail
+
+-- the store that is asked first
+abbrev pub active_store : {S : Type 0} → Grouped S → Option S
+active_store g = slice_get g.stores g.active
+
+-- what a store is seen as, and what is seen where there is none
+abbrev pub of_store : {S X : Type 0} → X → (S → X) → Option S → X
+of_store none f None = none
+of_store none f (Some s) = f s
+
+-- nothing is held
+abbrev pub no_chunks : Map (List ℕ)
+no_chunks id = None
+
+-- what the store has said. No store says that nothing is held
+abbrev pub said_of_store : {S : Type 0} → (S → Said) → Option S → Said
+said_of_store said None = said_by (Some no_chunks)
+said_of_store said (Some s) = said s
+
+-- ---- the group as one store
+
+module _ {S : Type 0} where
+  -- what the group holds, by whether its stores never fail
+  abbrev pub group_holds : Bool → (S → Option (Map (List ℕ))) → Grouped S → Option (Map (List ℕ))
+  group_holds true holds g = of_store (Some no_chunks) holds (active_store g)
+  group_holds false holds g = of_one holds g.stores
+
+  -- which files its chunks lie in
+  abbrev pub group_folder : Bool → (S → Option (Map (List ℕ))) → Grouped S → Option (Map (List ℕ))
+  group_folder true folder g = of_store None folder (active_store g)
+  group_folder false folder g = of_one folder g.stores
+
+  -- what it has said
+  abbrev pub group_told : Bool → (S → Said) → Grouped S → Said
+  group_told true said g = said_of_store said (active_store g)
+  group_told false said g = said_of said g.stores
+
+  -- how often it was asked for an id
+  abbrev pub group_times : Bool → (S → List ℕ → ℕ) → Grouped S → List ℕ → ℕ
+  group_times true count g = of_store (λ id. 0) count (active_store g)
+  group_times false count g = group_count count g
+
+  -- and how often it has failed, which it has where all of its stores have
+  abbrev pub group_faults : Bool → Grouped S → ℕ
+  group_faults true g = 0
+  group_faults false g = g.failed
+
+-- the group as one store, by whether its stores never fail
+abbrev pub as_store_by : {S : Type 0} → Bool → StoreWords S → StoreWords (Grouped S)
+as_store_by sure store = record {
+  holds = group_holds sure store.holds;
+  folder = group_folder sure store.folder;
+  said = group_told sure store.said;
   sent = λ g. sent_of store.sent store.folder g.stores;
-  asked = group_count store.asked;
-  queried = group_count store.queried;
-  faults = λ g. g.failed;
+  asked = group_times sure store.asked;
+  queried = group_times sure store.queried;
+  faults = group_faults sure;
   place = λ g. group_place store.place g;
-  tells = false;
-  never_fails = false;
+  tells = sure && store.tells;
+  never_fails = sure;
   may_lack_memory = store.may_lack_memory;
 }
+
+-- the same by what their type says of that
+abbrev pub as_store : {S : Type 0} → StoreWords S → StoreWords (Grouped S)
+as_store store = as_store_by store.never_fails store
+
+-- how often the group has failed, by its answer: once more exactly where it answers so
+pub record CountsByAnswer (a : Answer) (old new : ℕ) : Type 0 where
+  pub rose : a ≡ answer.Failed → Rose old new
+  pub stayed : a ≢ answer.Failed → new ≡ old
 
 -- the group was asked the question for the id and answered so, where the buffer then holds `out`. One store was asked
 -- after the other, from the active one on, round the group. The one that didn't fail is the active one then
@@ -127,6 +186,7 @@ pub record AsksGroup {S : Type 0} (store : StoreWords S) (q : Question) (id : Li
   pub failed : a ≡ answer.Failed → (new.failed ≡ raised old.failed 1) × (new.active ≡ old.active)
       × AllZip (FailsAll store old.retries) old.stores new.stores
   pub retries : new.retries ≡ old.retries
+  pub counts : CountsByAnswer a ((as_store store).faults old) ((as_store store).faults new)
 
 -- ---- what each group keeps to
 
@@ -149,7 +209,7 @@ if_some P Q f (Some x) h = f x h
 
 module _ {S : Type 0} (holds : S → Option (Map (List ℕ))) where
   -- a told map denies what it doesn't hold, and has shown and taken what it holds
-  pub says_one : (said : S → Said) → ((s : S) → IfSome (holds s) (SaysMap (said s))) → (stores : List S)
+  says_one : (said : S → Said) → ((s : S) → IfSome (holds s) (SaysMap (said s))) → (stores : List S)
       → IfSome (of_one holds stores) (SaysMap (said_of said stores))
   says_one said says [] = tt
   says_one said says (s ∷ []) =
@@ -157,7 +217,7 @@ module _ {S : Type 0} (holds : S → Option (Map (List ℕ))) where
   says_one said says (s ∷ t ∷ stores) = tt
 
   -- what lies in a told folder under the paths of chunks is what is held
-  pub lies_one : (folder : S → Option (Map (List ℕ)))
+  lies_one : (folder : S → Option (Map (List ℕ)))
       → ((s : S) → IfSome (folder s) (λ m. holds s ≡ Some (chunks m))) → (stores : List S)
       → IfSome (of_one folder stores) (λ m. of_one holds stores ≡ Some (chunks m))
   lies_one folder lies [] = tt
@@ -179,7 +239,61 @@ module _ {S : Type 0} (holds : S → Option (Map (List ℕ))) where
   unasked_at asked queried unasked r (s ∷ t ∷ stores) = tt
 
   -- a group that tells is asked for nothing that counts
-  pub unasked_one : (asked queried : S → List ℕ → ℕ)
+  unasked_one : (asked queried : S → List ℕ → ℕ)
       → ((s : S) → IfSome (holds s) (λ _. (q : List ℕ) → (asked s q ≡ 0) × (queried s q ≡ 0))) → (g : Grouped S)
       → IfSome (of_one holds g.stores) (λ _. (q : List ℕ) → (group_count asked g q ≡ 0) × (group_count queried g q ≡ 0))
   unasked_one asked queried unasked g = unasked_at asked queried unasked g.retries g.stores
+
+  -- ---- the same of the active store, which may be none
+
+  says_some : (said : S → Said) → ((s : S) → IfSome (holds s) (SaysMap (said s))) → (o : Option S)
+      → IfSome (of_store (Some no_chunks) holds o) (SaysMap (said_of_store said o))
+  says_some said says None = says_map (Some no_chunks)
+  says_some said says (Some s) = says s
+
+  lies_some : (folder : S → Option (Map (List ℕ))) → ((s : S) → IfSome (folder s) (λ m. holds s ≡ Some (chunks m)))
+      → (o : Option S) → IfSome (of_store None folder o) (λ m. of_store (Some no_chunks) holds o ≡ Some (chunks m))
+  lies_some folder lies None = tt
+  lies_some folder lies (Some s) = lies s
+
+  unasked_some : (asked queried : S → List ℕ → ℕ)
+      → ((s : S) → IfSome (holds s) (λ _. (q : List ℕ) → (asked s q ≡ 0) × (queried s q ≡ 0))) → (o : Option S)
+      → IfSome (of_store (Some no_chunks) holds o)
+      (λ _. (q : List ℕ) → (of_store (λ id. 0) asked o q ≡ 0) × (of_store (λ id. 0) queried o q ≡ 0))
+  unasked_some asked queried unasked None = λ q. (refl, refl)
+  unasked_some asked queried unasked (Some s) = unasked s
+
+  told_some : ((s : S) → IsSome (holds s)) → (o : Option S) → IsSome (of_store (Some no_chunks) holds o)
+  told_some told None = refl
+  told_some told (Some s) = told s
+
+  -- ---- by whether its stores never fail
+
+  pub says_by : (sure : Bool) (said : S → Said) → ((s : S) → IfSome (holds s) (SaysMap (said s))) → (g : Grouped S)
+      → IfSome (group_holds sure holds g) (SaysMap (group_told sure said g))
+  says_by true said says g = says_some said says (active_store g)
+  says_by false said says g = says_one said says g.stores
+
+  pub lies_by : (sure : Bool) (folder : S → Option (Map (List ℕ)))
+      → ((s : S) → IfSome (folder s) (λ m. holds s ≡ Some (chunks m))) → (g : Grouped S)
+      → IfSome (group_folder sure folder g) (λ m. group_holds sure holds g ≡ Some (chunks m))
+  lies_by true folder lies g = lies_some folder lies (active_store g)
+  lies_by false folder lies g = lies_one folder lies g.stores
+
+  pub unasked_by : (sure : Bool) (asked queried : S → List ℕ → ℕ)
+      → ((s : S) → IfSome (holds s) (λ _. (q : List ℕ) → (asked s q ≡ 0) × (queried s q ≡ 0))) → (g : Grouped S)
+      → IfSome (group_holds sure holds g)
+      (λ _. (q : List ℕ) → (group_times sure asked g q ≡ 0) × (group_times sure queried g q ≡ 0))
+  unasked_by true asked queried unasked g = unasked_some asked queried unasked (active_store g)
+  unasked_by false asked queried unasked g = unasked_one asked queried unasked g
+
+  -- a group tells where its stores tell and never fail
+  pub told_by : (sure tells : Bool) → ((s : S) → IsTrue tells → IsSome (holds s)) → (g : Grouped S)
+      → IsTrue (sure && tells) → IsSome (group_holds sure holds g)
+  told_by true tells told g t = told_some (λ s. told s t) (active_store g)
+  told_by false tells told g t = absurd (false≢true t)
+
+-- a group whose stores never fail counts no fault
+pub sure_by : {S : Type 0} (sure : Bool) (g : Grouped S) → IsTrue sure → group_faults sure g ≡ 0
+sure_by true g t = refl
+sure_by false g t = absurd (false≢true t)

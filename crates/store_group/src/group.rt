@@ -5,7 +5,7 @@ ghost use Rattle.std.specs.List.{AllZip};
 ghost use Rattle.dsy_base.specs.Counts.{raised};
 ghost use Rattle.store_group.specs.Answers.{AnswerSays, AnswersRound, AskedUpTo, FailsAll, IsAbout, answer_to_get};
 ghost use Rattle.store_group.specs.Answers.{answer_to_has};
-ghost use Rattle.store_group.specs.Groups.{AsksGroup, CountsFailures, Grouped, as_store};
+ghost use Rattle.store_group.specs.Groups.{AsksGroup, CountsByAnswer, CountsFailures, Grouped, as_store, group_faults};
 
 use crate::answer::{Answer, Question};
 use crate::turns::ask_round;
@@ -111,6 +111,8 @@ impl<S: Store> Group<S> {
             × (self.new.active ≡ self.old.active)
             × AllZip (FailsAll S.Store self.old.retries) self.old.stores self.new.stores }
         ensures retries { self.new.retries ≡ self.old.retries }
+        ensures counts { CountsByAnswer result (group_faults S.never_fails self.old)
+            (group_faults S.never_fails self.new) }
     {
         let stores = self.stores.as_mut_slice();
         match ask_round(stores, self.active, self.retries, question, id, out) {
@@ -143,30 +145,30 @@ impl<S: Store> Group<S> {
 }
 
 impl<S: Store> Store for Group<S> {
-    ghost use Rattle.std.specs.Prelude.{false};
-    ghost use Rattle.std.proofs.Common.{rules};
-    ghost use Rattle.store_group.specs.Groups.{group_count, of_one, group_place, said_of, sent_of};
-    ghost use Rattle.store_group.specs.Groups.{lies_one, says_one, unasked_one};
+    ghost use Rattle.std.specs.Prelude.{◌&&◌};
+    ghost use Rattle.store_group.specs.Groups.{group_faults, group_folder, group_holds, group_place, group_times};
+    ghost use Rattle.store_group.specs.Groups.{group_told, sent_of};
+    ghost use Rattle.store_group.specs.Groups.{lies_by, says_by, sure_by, told_by, unasked_by};
 
-    ghost holds = { λ g. of_one S.holds g.stores };
+    ghost holds = { λ g. group_holds S.never_fails S.holds g };
 
-    ghost folder = { λ g. of_one S.folder g.stores };
+    ghost folder = { λ g. group_folder S.never_fails S.folder g };
 
-    ghost said = { λ g. said_of S.said g.stores };
+    ghost said = { λ g. group_told S.never_fails S.said g };
 
     ghost sent = { λ g. sent_of S.sent S.folder g.stores };
 
-    ghost asked = { λ g. group_count S.asked g };
+    ghost asked = { λ g. group_times S.never_fails S.asked g };
 
-    ghost queried = { λ g. group_count S.queried g };
+    ghost queried = { λ g. group_times S.never_fails S.queried g };
 
-    ghost faults = { λ g. g.failed };
+    ghost faults = { λ g. group_faults S.never_fails g };
 
     ghost place = { λ g. group_place S.place g };
 
-    ghost tells = { false };
+    ghost tells = { S.never_fails && S.tells };
 
-    ghost never_fails = { false };
+    ghost never_fails = { S.never_fails };
 
     ghost may_lack_memory = { S.may_lack_memory };
 
@@ -178,13 +180,13 @@ impl<S: Store> Store for Group<S> {
         self.ask_whether(id)
     }
 
-    ghost says = { λ g. says_one S.holds S.said S.says g.stores };
+    ghost says = { λ g. says_by S.holds S.never_fails S.said S.says g };
 
-    ghost lies = { λ g. lies_one S.holds S.folder S.lies g.stores };
+    ghost lies = { λ g. lies_by S.holds S.never_fails S.folder S.lies g };
 
-    ghost unasked = { λ g. unasked_one S.holds S.asked S.queried S.unasked g };
+    ghost unasked = { λ g. unasked_by S.holds S.never_fails S.asked S.queried S.unasked g };
 
-    ghost told = { Prim.search rules };
+    ghost told = { λ g t. told_by S.holds S.never_fails S.tells S.told g t };
 
-    ghost sure = { Prim.search rules };
+    ghost sure = { λ g t. sure_by S.never_fails g t };
 }
