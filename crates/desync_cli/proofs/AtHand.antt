@@ -42,7 +42,7 @@ use Rattle.extract_command.specs.declared.stores.Stores.{Stores}
 use Rattle.desync_cli.specs.AtHand.{EndsAtHand, StoreGivesEntry, IsAtHand, ListsOneSize, NeedsNoServer, into, near}
 use Rattle.command_line.specs.CommandLine.{command_line}
 use Rattle.command_words.specs.declared.usage.WordsFault.{WordsFault}
-use Rattle.desync_cli.specs.Commands.{DesyncEnds, CommandEnds, NoCommand, command_of, refusal_in, command_said}
+use Rattle.desync_cli.specs.Commands.{CommandEnds, DesyncEnds, NoCommand, SureTypes, command_of, command_said, refusal_in}
 use Rattle.dsy_base.proofs.Counts.{at_same}
 use Rattle.dsy_base.specs.Disk.{Disk}
 use Rattle.dsy_base.specs.Links.{DialState}
@@ -415,12 +415,12 @@ fine : (c : Command) (d : Disk) (o : Outcome) → (o ≡ ends.Done) ⊎ (o ≡ e
 fine (commands.Extract stores retries seeds cache place workers index target) d o is = if_any d.files _ (λ b. if_any d.folders _ (λ n. λ no. is))
 fine other d o is = tt
 
-refused_at_hand : (sure : Bool) (c : Command) (k : Heard) (w v : World) (o : Outcome) → DiskQuiet w.disk v.disk → CommandEnds sure k c w (Err o) v → EndsAtHand c w.disk o
+refused_at_hand : (sure : SureTypes) (c : Command) (k : Heard) (w v : World) (o : Outcome) → DiskQuiet w.disk v.disk → CommandEnds sure k c w (Err o) v → EndsAtHand c w.disk o
 refused_at_hand sure (commands.Extract stores retries seeds cache place workers index target) k w v o quiet h = go w.disk.files w.disk.folders refl refl where
   go : (f : Option (Map (List ℕ))) (g : Option (Map (Map (List ℕ)))) → w.disk.files ≡ f → w.disk.folders ≡ g → IfSome f (λ b. IfSome g (λ n. NeedsNoServer b n stores cache seeds (into place target) index → (o ≡ ends.Done) ⊎ (o ≡ ends.Memory)))
   go None g is y = tt
   go (Some b) None is y = tt
-  go (Some b) (Some n) is y = λ no. inr (extracted_at_hand (never_fail sure k.never_fails) (record { groups = stores; retries = retries }) cache seeds place index target w v quiet b n is y no o h)
+  go (Some b) (Some n) is y = λ no. inr (extracted_at_hand (never_fail sure.target k.never_fails) (record { groups = stores; retries = retries }) cache seeds place index target w v quiet b n is y no o h)
 refused_at_hand sure other k w v o quiet h = tt
 
 words_refused : (words : List (List ℕ)) (d : Disk) (o : Outcome) → NoCommand words o → IfSome (command_of words) (λ c. EndsAtHand c d o)
@@ -431,7 +431,7 @@ words_refused words d (ends.Usage place why) h = go (command_line words) h where
 words_refused words d ends.Memory h = if_any (command_of words) _ (λ c. fine c d ends.Memory (inr refl))
 words_refused words d other h = absurd h
 
-pub ends_at_hand : (sure : Bool) (k : Heard) (words : List (List ℕ)) (w v : World) (r : Result Unit Outcome) → DesyncEnds sure k words w r v → DiskQuiet w.disk v.disk → IfSome (command_of words) (λ c. EndsAtHand c w.disk (outcome_of r))
+pub ends_at_hand : (sure : SureTypes) (k : Heard) (words : List (List ℕ)) (w v : World) (r : Result Unit Outcome) → DesyncEnds sure k words w r v → DiskQuiet w.disk v.disk → IfSome (command_of words) (λ c. EndsAtHand c w.disk (outcome_of r))
 ends_at_hand sure k words w v (Ok u) h quiet = if_any (command_of words) _ (λ c. fine c w.disk ends.Done (inl refl))
 ends_at_hand sure k words w v (Err o) (inl h) quiet = words_refused words w.disk o h.0
 ends_at_hand sure k words w v (Err o) (inr h) quiet = let b = begun sure k words w v (Err o) h in if_some (command_of words) _ b.0 b.1 (refused_at_hand sure b.0 k w v o quiet b.2)

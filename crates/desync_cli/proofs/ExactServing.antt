@@ -30,7 +30,7 @@ use Rattle.http_serve.specs.Steps.{AreBothAlike, ServedState, Steps}
 use Rattle.http_serve.specs.Turns.{Served, Takes, files_left, replies}
 use Rattle.index_server.specs.Talks.{index_protocol}
 use Rattle.locked_shelf.specs.Keepings.{KeepsOpening}
-use Rattle.proxy_command.specs.ProxyServing.{OrUnheard, ProxyServed, ProxyServerEnds}
+use Rattle.proxy_command.specs.ProxyServing.{LookTypes, OrUnheard, ProxyServed, ProxyServerEnds}
 use Rattle.server_commands.specs.ChunkServing.{ChunkServerEnds, ServesChunks, ServesChunksShort, chunk_protocol}
 use Rattle.server_commands.specs.IndexServing.{IndexServerEnds}
 use Rattle.server_commands.specs.Serving.{AreServed, FolderServed, FolderServing, Heard, IsServed, ServedBack, ServesInTurn, ServesInTurnShort, TakenUnheard, TakesFront, fresh}
@@ -178,9 +178,9 @@ module _ (x : Contents) (w v : World) (quiet : IsQuiet w v) (h : Heard) (heard :
       (taken_unheard store serving w r s)
 
   -- the cache's folder is left so
-  proxied_so : (groups : List (List Location)) (e : ℕ) (q : List ℕ) (kind : DigestKind) (in_turn : Bool) (f : Map (List ℕ)) (u : World) → IsAt x w u → x.folders q ≡ Some f → (r : Result Unit Outcome) → OnStorage (ProxyServed h groups e q kind in_turn) u r v
+  proxied_so : (looks : LookTypes) (groups : List (List Location)) (e : ℕ) (q : List ℕ) (kind : DigestKind) (in_turn : Bool) (f : Map (List ℕ)) (u : World) → IsAt x w u → x.folders q ≡ Some f → (r : Result Unit Outcome) → OnStorage (ProxyServed looks h groups e q kind in_turn) u r v
       → EndsSo x v (Answers (KeepsOpening kind) q f) (outcome_of r)
-  proxied_so groups e q kind in_turn f u at there (Ok _) s =
+  proxied_so looks groups e q kind in_turn f u at there (Ok _) s =
       let p = s.0 in
       let g = p.left.files in
       let were : x.folders q ≡ p.held = subst (λ o. IfSome o (λ m. m q ≡ p.held)) at.has.folders p.was in
@@ -195,9 +195,9 @@ module _ (x : Contents) (w v : World) (quiet : IsQuiet w v) (h : Heard) (heard :
         },
         (refl, g, refl, kept),
       )
-  proxied_so groups e q kind in_turn f u at there (Err ends.ListenFault) s = absurd (rose_not_quiet h.old.faults h.old.faults h.new.faults (omega arith) s.0.served.0 heard)
-  proxied_so groups e q kind in_turn f u at there (Err ends.Memory) s = inl refl
-  proxied_so groups e q kind in_turn f u at there (Err other) s = absurd s.0.served
+  proxied_so looks groups e q kind in_turn f u at there (Err ends.ListenFault) s = absurd (rose_not_quiet h.old.faults h.old.faults h.new.faults (omega arith) s.0.serving.served.0 heard)
+  proxied_so looks groups e q kind in_turn f u at there (Err ends.Memory) s = inl refl
+  proxied_so looks groups e q kind in_turn f u at there (Err other) s = absurd s.0.serving.served
 
   -- nobody is heard where a step before refuses
   or_heard : (step : Step Disk Unit) (then : Unit {0} → Step World Unit) (u : World) (r : Result Unit Outcome) → (OnDisk (OrUnheard h step) >>= then) u r v → (OnDisk step >>= then) u r v
@@ -205,15 +205,15 @@ module _ (x : Contents) (w v : World) (quiet : IsQuiet w v) (h : Heard) (heard :
   or_heard step then u (Err o) (inl s) = inl (s.0.0, s.1, s.2)
   or_heard step then u (Err o) (inr s) = inr (record { disk = s.disk; dial = s.dial; out = s.out; gave = s.gave; did = s.did; then = s.then })
 
-  pub proxy_server_so : (groups : List (List Location)) (retries : ℕ) (cache : List ℕ) (kind : DigestKind) (workers : ℕ) → IsTrue (are_folders (stores_of groups)) → HasContents w x → (r : Result Unit Outcome) → ProxyServerEnds h groups retries cache kind workers w r v
+  pub proxy_server_so : (looks : LookTypes) (groups : List (List Location)) (retries : ℕ) (cache : List ℕ) (kind : DigestKind) (workers : ℕ) → IsTrue (are_folders (stores_of groups)) → HasContents w x → (r : Result Unit Outcome) → ProxyServerEnds looks h groups retries cache kind workers w r v
       → EndsSo x v (folders_at (stores_of groups) (λ fs. folder_at cache (Answers (KeepsOpening kind) cache))) (outcome_of r)
-  proxy_server_so groups retries cache kind workers all has r s =
+  proxy_server_so looks groups retries cache kind workers all has r s =
       let stores = stores_of groups in
       let end : Ending = folder_at cache (Answers (KeepsOpening kind) cache) in
-      let serving : Unit {0} → Step World Unit = λ u. OnStorage (ProxyServed h groups retries cache kind (workers == 1)) in
+      let serving : Unit {0} → Step World Unit = λ u. OnStorage (ProxyServed looks h groups retries cache kind (workers == 1)) in
       let rest : Unit {0} → Step World Unit = λ u. OnDisk (OrUnheard h (CacheOpened stores (Some cache))) >>= serving in
       stores_so x w v quiet stores all (λ fs. end) rest
-      (λ fs e at are r t. cache_so x w v quiet stores cache (Answers (KeepsOpening kind) cache) serving (λ f u there is. proxied_so groups retries cache kind (workers == 1) f u there is) e at r (or_heard (CacheOpened stores (Some cache)) serving e r t))
+      (λ fs e at are r t. cache_so x w v quiet stores cache (Answers (KeepsOpening kind) cache) serving (λ f u there is. proxied_so looks groups retries cache kind (workers == 1) f u there is) e at r (or_heard (CacheOpened stores (Some cache)) serving e r t))
       w (at_first x w has) r (or_heard (SourcesOpened stores) rest w r s)
 
   pub index_server_so : (folder : List ℕ) (writable : Bool) → HasContents w x → (r : Result Unit Outcome) → IndexServerEnds h folder writable w r v → EndsSo x v (folder_at folder (Answers (IsAnsweredInTurn (index_protocol writable) h) folder)) (outcome_of r)

@@ -37,13 +37,13 @@ use Rattle.cache_command.specs.Caching.{EndsFilling, FillTells, IndexesFilled, N
 use Rattle.cat_command.specs.Cat.{RangePut, range_size}
 use Rattle.cat_command.specs.Putting.{chunk_at}
 use Rattle.image_commands.specs.Chop.{ImageChopped}
-use Rattle.desync_cli.specs.Commands.{DesyncEnds, CommandEnds, NoCommand, TellsRefusal, WordsRead, command_of, parts, refusal_in, usage_refusal, command_said, spares}
+use Rattle.desync_cli.specs.Commands.{CommandEnds, DesyncEnds, NoCommand, SureTypes, TellsRefusal, WordsRead, command_of, command_said, parts, refusal_in, spares, usage_refusal}
 use Rattle.print_commands.specs.Demo.{Rehearsed}
 use Rattle.extract_command.proofs.Wrote.{wrote_on}
 use Rattle.extract_command.specs.Extract.{CacheFilled, Clearing, FillsCache, ImageMade, Into, NeverFail, OutMade, Renamed, Seeds, beside, in_place, never_fail, temporary_out}
 use Rattle.store_commands.specs.Info.{IdsCounted, NotAsked}
 use Rattle.image_commands.specs.Make.{ImageStored, IndexWritten, SizesJudged, WritesStore}
-use Rattle.proxy_command.specs.ProxyServing.{OrUnheard, ProxyServed, ServesProxyTo}
+use Rattle.proxy_command.specs.ProxyServing.{LookTypes, OrUnheard, ProxyServed, ServesProxyTo, Supply, Surely}
 use Rattle.server_commands.specs.Serving.{FolderServed, FolderServing, Heard, TakenUnheard}
 use Rattle.store_commands.specs.VerifyIndex.{ImageChecked}
 use Rattle.verify_tool.specs.Pruning.{is_listed_in}
@@ -324,10 +324,10 @@ or_unheard_step {W} {A} {at} {s} {x} h step k = record { fair = λ w v o t. k.fa
   leaves w v (Ok a) t = k.leaves w v (Ok a) t
   leaves w v (Err o) t = k.leaves w v (Err o) t.0
 
-proxied_step : (x : Parts) (p : Output) (h : Heard) (groups : List (List Location)) (e : ℕ) (cache : List ℕ) (kind : DigestKind) (in_turn : Bool) → x.listener ≡ (h.old.faults, h.new.faults)
-    → IsStep (behind p) (record { files = true; folders = false; dial = are_folders (stores_of groups); out = true }) x (ProxyServed h groups e cache kind in_turn)
-proxied_step x p h groups e cache kind in_turn same = record {
-  fair = λ w v o t. fair w v o t.held t.holds t.served;
+proxied_step : (x : Parts) (p : Output) (looks : LookTypes) (h : Heard) (groups : List (List Location)) (e : ℕ) (cache : List ℕ) (kind : DigestKind) (in_turn : Bool) → x.listener ≡ (h.old.faults, h.new.faults)
+    → IsStep (behind p) (record { files = true; folders = false; dial = are_folders (stores_of groups); out = true }) x (ProxyServed looks h groups e cache kind in_turn)
+proxied_step x p looks h groups e cache kind in_turn same = record {
+  fair = λ w v o t. fair w v o _ _ t.serving.served;
   leaves = λ w v r t. record {
     keeps = record { files = λ y. t.adds.files; folders = λ y. absurd (cc); dial = t.undialed; out = λ y. refl };
     files = t.adds.counts;
@@ -336,10 +336,10 @@ proxied_step x p h groups e cache kind in_turn same = record {
     out = omega arith;
   };
 } where
-  fair : (w v : Storage) (o : Outcome) (held : Option (Map (List ℕ))) (holds : List (Option (Map (List ℕ)))) → ServesProxyTo kind h held holds in_turn (Err o) → IsFair x o (behind p w) (behind p v)
-  fair w v ends.ListenFault held holds t = (tt, subst (λ (y : ℕ × ℕ). Rose y.0 y.1) (sym same) t.0)
-  fair w v ends.Memory held holds t = (tt, tt)
-  fair w v other held holds t = absurd t
+  fair : (w v : Storage) (o : Outcome) (s : Supply) (sure : Surely) → ServesProxyTo kind h s sure in_turn (Err o) → IsFair x o (behind p w) (behind p v)
+  fair w v ends.ListenFault s sure t = (tt, subst (λ (y : ℕ × ℕ). Rose y.0 y.1) (sym same) t.0)
+  fair w v ends.Memory s sure t = (tt, tt)
+  fair w v other s sure t = absurd t
 
 judged_fair : (x : Parts) (sizes : List ℕ) (o : Outcome) (w v : World) → SizesJudged sizes (Err o) → IsFair x o w v
 judged_fair x sizes (ends.Sizes fault) w v h = (tt, tt)
@@ -376,13 +376,13 @@ second : (a b : Bool) → IsTrue (a && b) → IsTrue b
 second true b t = t
 second false b t = absurd (cc)
 
-command_step : (sure : Bool) (h : Heard) (c : Command) → Fits c → IsStep whole (spares c) (parts h c) (CommandEnds sure h c)
+command_step : (sure : SureTypes) (h : Heard) (c : Command) → Fits c → IsStep whole (spares c) (parts h c) (CommandEnds sure h c)
 command_step sure h (commands.Make store sizes workers digest index image) f = bound (pure_step (SizesJudged sizes) (judged_fair (parts h (commands.Make store sizes workers digest index image)) sizes)) (λ z. bound (on_disk (λ p. image_step _ _ p)) (λ told. bound (on_disk (λ p. source_taken_step _ _ _ _ p _ store)) (λ held. bound (on_sources (λ p. stored_step _ p store refl _ _ digest z told held)) (λ bytes. on_disk (λ p. written_step _ _ _ _ p index bytes)))))
 command_step sure h (commands.VerifyIndex workers index image) f = bound (on_sources (λ p. got_step p index (the_one index) (λ t. t))) (λ l. bound (on_disk (λ p. image_step _ _ p)) (λ told. on_disk (λ p. checked_step _ _ p l told)))
 command_step sure h (commands.Chop store workers index image) f = bound (on_sources (λ p. got_step p index (the_one index) (second (is_folder store) (is_file index)))) (λ l. bound (on_disk (λ p. image_step _ _ p)) (λ told. bound (on_disk (λ p. source_taken_step _ _ _ _ p _ store)) (λ held. on_sources (λ p. dial_less (first (is_folder store) (is_file index)) (chopped_step _ p store refl _ _ l told held)))))
 command_step sure h (commands.Cache stores retries cache workers indexes) f = bound (on_disk (λ p. sources_step _ _ p (stores_of stores))) (λ u. bound (on_disk (λ p. cache_step _ _ p (stores_of stores) (Some cache))) (λ u. on_sources (λ p. filled_step _ _ (parts h (commands.Cache stores retries cache workers indexes)) p stores retries f.1.0 refl workers indexes (λ q has. has))))
 command_step sure h (commands.ListChunks index) f = bound (on_sources (λ p. got_step p index (the_one index) (λ t. t))) (λ l. on_out (λ d. printed_step _ _ _ _ d (text_of_chunks l)))
-command_step sure h (commands.Extract stores retries seeds cache in_place workers index target) f = bound (on_sources (λ p. got_step p index (the_one index) (second (are_folders (stores_of stores)) (is_file index)))) (λ l. bound (on_disk (λ p. indexes_step _ _ p seeds)) (λ ls. bound (on_disk (λ p. sources_step _ _ p (stores_of stores))) (λ u. bound (on_disk (λ p. cache_step _ _ p (stores_of stores) cache)) (λ u. dial_less (first (are_folders (stores_of stores)) (is_file index)) (out_step (never_fail sure h.never_fails) _ (parts h (commands.Extract stores retries seeds cache in_place workers index target)) (record { groups = stores; retries = retries }) f.1.0 refl cache l (record { images = map image_name seeds; listings = ls }) in_place target refl)))))
+command_step sure h (commands.Extract stores retries seeds cache in_place workers index target) f = bound (on_sources (λ p. got_step p index (the_one index) (second (are_folders (stores_of stores)) (is_file index)))) (λ l. bound (on_disk (λ p. indexes_step _ _ p seeds)) (λ ls. bound (on_disk (λ p. sources_step _ _ p (stores_of stores))) (λ u. bound (on_disk (λ p. cache_step _ _ p (stores_of stores) cache)) (λ u. dial_less (first (are_folders (stores_of stores)) (is_file index)) (out_step (never_fail sure.target h.never_fails) _ (parts h (commands.Extract stores retries seeds cache in_place workers index target)) (record { groups = stores; retries = retries }) f.1.0 refl cache l (record { images = map image_name seeds; listings = ls }) in_place target refl)))))
 command_step sure h (commands.Cat stores retries offset length index) f = bound (on_sources (λ p. got_step p index (the_one index) (second (are_folders (stores_of stores)) (is_file index)))) (λ l. bound (on_disk (λ p. sources_step _ _ p (stores_of stores))) (λ u. dial_less (first (are_folders (stores_of stores)) (is_file index)) (put_step (parts h (commands.Cat stores retries offset length index)) stores retries f.1.0 refl l offset (range_size l offset length))))
 command_step sure h (commands.Info stores retries index) f = bound (on_sources (λ p. got_step p index (the_one index) (second (are_folders (stores_of stores)) (is_file index)))) (λ l. bound (on_sources (λ p. counted_step _ _ p stores retries f.0.0 refl (first (are_folders (stores_of stores)) (is_file index)) l)) (λ n. on_out (λ d. printed_step _ _ _ _ d (text_of_info l n))))
 command_step sure h (commands.Verify store repair workers digest) f = bound (on_disk (λ p. taken_step _ _ _ _ p [] store)) (λ held. verified_step _ _ digest store repair held refl)
@@ -392,7 +392,7 @@ command_step sure h commands.Help f = on_out (λ d. printed_step _ _ _ _ d (help
 command_step sure h commands.Version f = on_out (λ d. printed_step _ _ _ _ d (help_text topics.Version))
 command_step sure h (commands.HelpOn kind) f = on_out (λ d. printed_step _ _ _ _ d (help_text (topics.Command kind)))
 command_step sure h (commands.ChunkServer store host port writable workers digest) f = bound (on_disk (λ p. unheard_step _ _ _ _ p h store)) (λ held. on_disk (λ p. served_step _ _ _ _ p h store held _ _ refl))
-command_step sure h (commands.Proxy stores retries cache host port workers digest) f = bound (on_disk (λ p. or_unheard_step h _ (sources_step _ _ p (stores_of stores)))) (λ u. bound (on_disk (λ p. or_unheard_step h _ (cache_step _ _ p (stores_of stores) (Some cache)))) (λ u. on_sources (λ p. proxied_step _ p h stores retries cache digest _ refl)))
+command_step sure h (commands.Proxy stores retries cache host port workers digest) f = bound (on_disk (λ p. or_unheard_step h _ (sources_step _ _ p (stores_of stores)))) (λ u. bound (on_disk (λ p. or_unheard_step h _ (cache_step _ _ p (stores_of stores) (Some cache)))) (λ u. on_sources (λ p. proxied_step _ p sure.looks h stores retries cache digest _ refl)))
 command_step sure h (commands.IndexServer store host port writable) f = bound (on_disk (λ p. unheard_step _ _ _ _ p h store)) (λ held. on_disk (λ p. served_step _ _ _ _ p h store held _ _ refl))
 
 -- a command that listens is none that doesn't
@@ -402,7 +402,7 @@ none_such h = absurd (cc)
 -- ---- what the top call says
 
 -- the command began where the words were read
-pub begun : (sure : Bool) (k : Heard) (words : List (List ℕ)) (w v : World) (r : Result Unit Outcome) → Passed (WordsRead words) (CommandEnds sure k) w r v → (c : Command) × (command_of words ≡ Some c) × CommandEnds sure k c w r v × Fits c
+pub begun : (sure : SureTypes) (k : Heard) (words : List (List ℕ)) (w v : World) (r : Result Unit Outcome) → Passed (WordsRead words) (CommandEnds sure k) w r v → (c : Command) × (command_of words ≡ Some c) × CommandEnds sure k c w r v × Fits c
 begun sure k words w v r h = (h.gave, h.did.0, subst (λ u. CommandEnds sure k h.gave u r v) h.did.2 h.then, h.did.1)
 
 pub if_some : {X : Type 0} (o : Option X) (P : X → Type 0) (x : X) → o ≡ Some x → P x → IfSome o P
@@ -413,7 +413,7 @@ if_any None P f = tt
 if_any (Some x) P f = f x
 
 -- a command that is done fits
-pub done_fits : (sure : Bool) (k : Heard) (words : List (List ℕ)) (w v : World) (o : Outcome) → DesyncEnds sure k words w (answer_of o) v → o ≡ ends.Done → IfSome (command_of words) Fits
+pub done_fits : (sure : SureTypes) (k : Heard) (words : List (List ℕ)) (w v : World) (o : Outcome) → DesyncEnds sure k words w (answer_of o) v → o ≡ ends.Done → IfSome (command_of words) Fits
 done_fits sure k words w v o h done =
     let ended : DesyncEnds sure k words w (Ok tt) v = subst (λ e. DesyncEnds sure k words w (answer_of e) v) done h in
     if_some (command_of words) Fits ended.gave ended.did.0 ended.did.1
@@ -427,15 +427,15 @@ words_answer : (words : List (List ℕ)) (o : Outcome) → NoCommand words o →
 words_answer words ends.Done h = absurd h
 words_answer words other h = refl
 
-answer_is : (sure : Bool) (k : Heard) (words : List (List ℕ)) (w v : World) (o : Outcome) → DesyncEnds sure k words w (Err o) v → answer_of o ≡ Err o
+answer_is : (sure : SureTypes) (k : Heard) (words : List (List ℕ)) (w v : World) (o : Outcome) → DesyncEnds sure k words w (Err o) v → answer_of o ≡ Err o
 answer_is sure k words w v o (inl h) = words_answer words o h.0
 answer_is sure k words w v o (inr h) = as_answer o ((command_step sure k h.gave h.did.1).fair (between h) v o h.then).0
 
-pub answered : (sure : Bool) (k : Heard) (words : List (List ℕ)) (w v : World) (r : Result Unit Outcome) → DesyncEnds sure k words w r v → DesyncEnds sure k words w (answer_of (outcome_of r)) v
+pub answered : (sure : SureTypes) (k : Heard) (words : List (List ℕ)) (w v : World) (r : Result Unit Outcome) → DesyncEnds sure k words w r v → DesyncEnds sure k words w (answer_of (outcome_of r)) v
 answered sure k words w v (Ok u) h = h
 answered sure k words w v (Err o) h = subst (λ (r : Result Unit Outcome). DesyncEnds sure k words w r v) (sym (answer_is sure k words w v o h)) h
 
-pub kept : (sure : Bool) (k : Heard) (words : List (List ℕ)) (w v : World) (r : Result Unit Outcome) → DesyncEnds sure k words w r v → IfSome (command_of words) (λ c. Keeps (spares c) w v)
+pub kept : (sure : SureTypes) (k : Heard) (words : List (List ℕ)) (w v : World) (r : Result Unit Outcome) → DesyncEnds sure k words w r v → IfSome (command_of words) (λ c. Keeps (spares c) w v)
 kept sure k words w v (Ok u) h = let b = begun sure k words w v (Ok u) h in if_some (command_of words) _ b.0 b.1 ((command_step sure k b.0 b.3).leaves w v (Ok u) b.2).keeps
 kept sure k words w v (Err o) (inl h) = if_any (command_of words) _ (λ c. subst (λ u. Keeps (spares c) w u) (sym h.1) (record { files = λ t. refl; folders = λ t. refl; dial = λ t. refl; out = λ t. refl }))
 kept sure k words w v (Err o) (inr h) = let b = begun sure k words w v (Err o) h in if_some (command_of words) _ b.0 b.1 ((command_step sure k b.0 b.3).leaves w v (Err o) b.2).keeps
@@ -445,7 +445,7 @@ words_blame words x w v (ends.Usage place why) h = tt
 words_blame words x w v ends.Memory h = tt
 words_blame words x w v other h = absurd h
 
-pub blamed : (sure : Bool) (k : Heard) (words : List (List ℕ)) (w v : World) (r : Result Unit Outcome) → DesyncEnds sure k words w r v → IfSome (command_of words) (λ c. Blames (parts k c) (outcome_of r) w v)
+pub blamed : (sure : SureTypes) (k : Heard) (words : List (List ℕ)) (w v : World) (r : Result Unit Outcome) → DesyncEnds sure k words w r v → IfSome (command_of words) (λ c. Blames (parts k c) (outcome_of r) w v)
 blamed sure k words w v (Ok u) h = if_any (command_of words) _ (λ c. tt)
 blamed sure k words w v (Err o) (inl h) = if_any (command_of words) _ (λ c. words_blame words (parts k c) w v o h.0)
 blamed sure k words w v (Err o) (inr h) = let b = begun sure k words w v (Err o) h in if_some (command_of words) _ b.0 b.1 ((command_step sure k b.0 b.3).fair w v o b.2).1
@@ -507,7 +507,7 @@ quiet_listener k (commands.Proxy stores retries cache host port workers digest) 
 quiet_listener k (commands.IndexServer store host port writable) h = h
 quiet_listener k other h = record { same = omega arith; below = omega arith }
 
-pub nothing_failed : (sure : Bool) (k : Heard) (words : List (List ℕ)) (w v : World) (r : Result Unit Outcome) → DesyncEnds sure k words w r v → NoFault w v → Quiet k.old.faults k.new.faults → IfSome (command_of words) (λ c. All (RepliesTaken w v) (parts k c).stores × All (IndexTaken w v) (parts k c).indexes) → NothingFailed (outcome_of r)
+pub nothing_failed : (sure : SureTypes) (k : Heard) (words : List (List ℕ)) (w v : World) (r : Result Unit Outcome) → DesyncEnds sure k words w r v → NoFault w v → Quiet k.old.faults k.new.faults → IfSome (command_of words) (λ c. All (RepliesTaken w v) (parts k c).stores × All (IndexTaken w v) (parts k c).indexes) → NothingFailed (outcome_of r)
 nothing_failed sure k words w v (Ok u) h n heard taken = tt
 nothing_failed sure k words w v (Err o) (inl h) n heard taken = words_quiet words o h.0
 nothing_failed sure k words w v (Err o) (inr h) n heard taken =
@@ -528,7 +528,7 @@ command_tells words (ends.Usage place why) r h = absurd r
 command_tells words ends.Memory r h = tt
 command_tells words other r h = h
 
-pub tells_refusal : (sure : Bool) (k : Heard) (words : List (List ℕ)) (w v : World) (r : Result Unit Outcome) → DesyncEnds sure k words w r v → TellsRefusal (usage_refusal words) (outcome_of r)
+pub tells_refusal : (sure : SureTypes) (k : Heard) (words : List (List ℕ)) (w v : World) (r : Result Unit Outcome) → DesyncEnds sure k words w r v → TellsRefusal (usage_refusal words) (outcome_of r)
 tells_refusal sure k words w v (Ok u) h = unrefused (command_line words) h.gave h.did.0
 tells_refusal sure k words w v (Err o) (inl h) = words_tell words o h.0
 tells_refusal sure k words w v (Err o) (inr h) = command_tells words o ((command_step sure k h.gave h.did.1).fair (between h) v o h.then).0 (unrefused (command_line words) h.gave h.did.0)

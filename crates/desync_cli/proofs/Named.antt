@@ -38,7 +38,7 @@ use Rattle.cat_command.specs.Cat.{RangePut}
 use Rattle.cache_command.specs.Caching.{IndexesFilled, NotFilled, Evidence, outcome_of_fill}
 use Rattle.store_commands.specs.Info.{IdsCounted, NotAsked}
 use Rattle.store_commands.specs.Prune.{StorePruned}
-use Rattle.proxy_command.specs.ProxyServing.{OrUnheard, ProxyServed, ServesProxyTo}
+use Rattle.proxy_command.specs.ProxyServing.{LookTypes, OrUnheard, ProxyServed, ServesProxyTo, Supply, Surely}
 use Rattle.server_commands.specs.Serving.{FolderServed, FolderServing, Heard, TakenUnheard}
 use Rattle.store_commands.specs.Verify.{StoreVerified}
 use Rattle.cache_fill.specs.declared.fill.FillFault.{FillFault}
@@ -266,15 +266,15 @@ module _ (n : ℕ) where
   served_tells h q held whole part d e ends.Memory t = omega arith
   served_tells h q held whole part d e other t = absurd t.0
 
-  proxied_tells : (h : Heard) (groups : List (List Location)) (e : ℕ) (cache : List ℕ) (kind : DigestKind) (in_turn : Bool) → Tells n (ProxyServed h groups e cache kind in_turn)
-  proxied_tells h groups e cache kind in_turn w v o t = go o t.held t.holds t.served where
-    go : (o : Outcome) (held : Option (Map (List ℕ))) (holds : List (Option (Map (List ℕ)))) → ServesProxyTo kind h held holds in_turn (Err o) → length (name_in o) ≤ n
-    go ends.ListenFault held holds t = omega arith
-    go ends.Memory held holds t = omega arith
-    go other held holds t = absurd t
+  proxied_tells : (looks : LookTypes) (h : Heard) (groups : List (List Location)) (e : ℕ) (cache : List ℕ) (kind : DigestKind) (in_turn : Bool) → Tells n (ProxyServed looks h groups e cache kind in_turn)
+  proxied_tells looks h groups e cache kind in_turn w v o t = go o _ _ t.serving.served where
+    go : (o : Outcome) (s : Supply) (sure : Surely) → ServesProxyTo kind h s sure in_turn (Err o) → length (name_in o) ≤ n
+    go ends.ListenFault s sure t = omega arith
+    go ends.Memory s sure t = omega arith
+    go other s sure t = absurd t
 
-  pub proxied : (h : Heard) (groups : List (List Location)) (e : ℕ) (cache : List ℕ) (kind : DigestKind) (in_turn : Bool) → Shorts n (ProxyServed h groups e cache kind in_turn)
-  proxied h groups e cache kind in_turn = record { short = proxied_tells h groups e cache kind in_turn }
+  pub proxied : (looks : LookTypes) (h : Heard) (groups : List (List Location)) (e : ℕ) (cache : List ℕ) (kind : DigestKind) (in_turn : Bool) → Shorts n (ProxyServed looks h groups e cache kind in_turn)
+  proxied looks h groups e cache kind in_turn = record { short = proxied_tells looks h groups e cache kind in_turn }
 
   pub or_unheard : {W A : Type 0} (h : Heard) (step : Step W A) → Shorts n step → Shorts n (OrUnheard h step)
   or_unheard h step k = record { short = λ w v o t. k.short w v o t.0 }

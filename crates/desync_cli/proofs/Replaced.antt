@@ -17,7 +17,7 @@ use Rattle.command_indexes.proofs.Got.{got_reads}
 use Rattle.command_steps.specs.Sources.{Storage, SourcesOpened, storage, storage_of}
 use Rattle.command_worlds.specs.Worlds.{OnDisk, Reads, World, world}
 use Rattle.desync_cli.proofs.Fair.{begun, if_any, if_some}
-use Rattle.desync_cli.specs.Commands.{DesyncEnds, CommandEnds, LeavesBehind, command_of}
+use Rattle.desync_cli.specs.Commands.{CommandEnds, DesyncEnds, LeavesBehind, SureTypes, command_of}
 use Rattle.server_commands.specs.Serving.{Heard}
 use Rattle.extract_command.specs.Extract.{Assembled, Cleared, ExtractEnds, Into, KeepsIn, NeverFail, OutMade, Seeds, StopsSomewhere, beside, folder_of, never_fail, old_of, temporary_out}
 use Rattle.desync_cli.specs.Commands.{LeavesOut}
@@ -173,15 +173,15 @@ left_out sure stores cache seeds false index out w v o told (inr h) = go h.then 
 
 -- ---- what the top call says
 
-left_of : (sure : Bool) (k : Heard) (c : Command) (w v : World) (o : Outcome) → is_some w.disk.files ≡ is_some w.disk.folders → CommandEnds sure k c w (Err o) v → LeavesBehind c w v
-left_of sure k (commands.Extract stores retries seeds cache place workers index target) w v o told h = left_out (never_fail sure k.never_fails) (record { groups = stores; retries = retries }) cache seeds place index target w v o told h
+left_of : (sure : SureTypes) (k : Heard) (c : Command) (w v : World) (o : Outcome) → is_some w.disk.files ≡ is_some w.disk.folders → CommandEnds sure k c w (Err o) v → LeavesBehind c w v
+left_of sure k (commands.Extract stores retries seeds cache place workers index target) w v o told h = left_out (never_fail sure.target k.never_fails) (record { groups = stores; retries = retries }) cache seeds place index target w v o told h
 left_of sure k other w v o told h = tt
 
 left_none : (c : Command) (w v : World) → v ≡ w → LeavesBehind c w v
 left_none (commands.Extract stores retries seeds cache place workers index target) w v same = left_same place target w v (ap (λ u. u.disk.files) same)
 left_none other w v same = tt
 
-pub left_behind : (sure : Bool) (k : Heard) (words : List (List ℕ)) (w v : World) (r : Result Unit Outcome) → is_some w.disk.files ≡ is_some w.disk.folders → DesyncEnds sure k words w r v → outcome_of r ≢ ends.Done → IfSome (command_of words) (λ c. LeavesBehind c w v)
+pub left_behind : (sure : SureTypes) (k : Heard) (words : List (List ℕ)) (w v : World) (r : Result Unit Outcome) → is_some w.disk.files ≡ is_some w.disk.folders → DesyncEnds sure k words w r v → outcome_of r ≢ ends.Done → IfSome (command_of words) (λ c. LeavesBehind c w v)
 left_behind sure k words w v (Ok u) told h refused = absurd (refused refl)
 left_behind sure k words w v (Err o) told (inl h) refused = if_any (command_of words) _ (λ c. left_none c w v h.1)
 left_behind sure k words w v (Err o) told (inr h) refused = let b = begun sure k words w v (Err o) h in if_some (command_of words) _ b.0 b.1 (left_of sure k b.0 w v o told b.2)

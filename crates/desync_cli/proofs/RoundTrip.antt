@@ -1,5 +1,5 @@
 -- What comes back where `make` and then `extract` are done.
-use Rattle.std.proofs.Common.{◌≡◌, ◌⊎◌, ℕ, IsTrue, ap, not, List, Option, Some, None, IfSome, subst, sym, ◌∙◌, false}
+use Rattle.std.proofs.Common.{◌≡◌, ◌⊎◌, ℕ, IsTrue, ap, not, List, Option, Some, None, IfSome, subst, sym, ◌∙◌, false, true}
 use Rattle.buzhash_cut.specs.Image.{IsIndexOfImage}
 use Rattle.buzhash_cut.specs.Right.{HasTwins}
 use Rattle.buzhash_cut.specs.Sizes.{Sizes}
@@ -16,7 +16,7 @@ use Rattle.command_words.specs.Limits.{Fits}
 use Rattle.command_worlds.specs.Worlds.{world}
 use Rattle.command_words.specs.declared.command.Command.{Command}
 use Rattle.command_words.specs.declared.command.Command.TheVariants as commands
-use Rattle.desync_cli.specs.Commands.{Achieves}
+use Rattle.desync_cli.specs.Commands.{Achieves, sure_types}
 use Rattle.extract_command.specs.Extract.{IsExtracted}
 use Rattle.image_commands.specs.Make.{IsMade}
 use Rattle.desync_cli.specs.RoundTrip.{ComesBack, RoundTrip}
@@ -24,6 +24,7 @@ use Rattle.server_commands.specs.Serving.{Heard}
 use Rattle.dsy_base.specs.Disk.{Disk, Output}
 use Rattle.dsy_base.specs.Links.{DialState}
 use Rattle.dsy_base.specs.Maps.{Map}
+use Rattle.proxy_command.specs.ProxyServing.{look_types}
 
 abbrev tells : Map (List ℕ) → Map (Map (List ℕ)) → Map ℕ → Map ℕ → Disk
 tells files folders counts folder_counts = record { files = Some files; folders = Some folders; file_counts = counts; folder_counts = folder_counts }
@@ -45,7 +46,7 @@ module _ (one : (b : List ℕ) (l m : Listing) → IsIndexFile b l → IsIndexFi
         same = law kind _ m.bytes x.image l m.of_image (subst (λ l. IsRight x.image l) same x.right);
       }
 
-  over : (x y : Heard) (first then : Command) (b m a : Map (List ℕ)) (f g h : Map (Map (List ℕ))) (bc fc mc gc ac hc : Map ℕ) (i j k : DialState) (p q r : Output) → Fits first → Achieves false x first (world (tells b f bc fc) i p) (world (tells m g mc gc) j q) → Achieves false y then (world (tells m g mc gc) j q) (world (tells a h ac hc) k r)
+  over : (x y : Heard) (first then : Command) (b m a : Map (List ℕ)) (f g h : Map (Map (List ℕ))) (bc fc mc gc ac hc : Map ℕ) (i j k : DialState) (p q r : Output) → Fits first → Achieves (sure_types false (look_types false true)) x first (world (tells b f bc fc) i p) (world (tells m g mc gc) j q) → Achieves (sure_types false (look_types false true)) y then (world (tells m g mc gc) j q) (world (tells a h ac hc) k r)
       → RoundTrip (Some first) (Some then) b a
   over x y (commands.Make store sizes workers digest index image) (commands.Extract stores retries seeds cache in_place n other out) b m a f g h bc fc mc gc ac hc i j k p q r fits made got = λ same.
       let Spelled : List ℕ → Listing → Type 0 = IndexSpells (storage (tells m g mc gc) j) (storage (tells a h ac hc) k) in
@@ -57,7 +58,7 @@ module _ (one : (b : List ℕ) (l m : Listing) → IsIndexFile b l → IsIndexFi
   no_second (commands.Make store sizes workers digest index image) b a = tt
   no_second other b a = tt
 
-  pub round_trip : (x y : Heard) (first then : Option Command) (b m a : Map (List ℕ)) (f g h : Map (Map (List ℕ))) (bc fc mc gc ac hc : Map ℕ) (i j k : DialState) (p q r : Output) → IfSome first Fits → IfSome first (λ c. Achieves false x c (world (tells b f bc fc) i p) (world (tells m g mc gc) j q)) → IfSome then (λ c. Achieves false y c (world (tells m g mc gc) j q) (world (tells a h ac hc) k r))
+  pub round_trip : (x y : Heard) (first then : Option Command) (b m a : Map (List ℕ)) (f g h : Map (Map (List ℕ))) (bc fc mc gc ac hc : Map ℕ) (i j k : DialState) (p q r : Output) → IfSome first Fits → IfSome first (λ c. Achieves (sure_types false (look_types false true)) x c (world (tells b f bc fc) i p) (world (tells m g mc gc) j q)) → IfSome then (λ c. Achieves (sure_types false (look_types false true)) y c (world (tells m g mc gc) j q) (world (tells a h ac hc) k r))
       → RoundTrip first then b a
   round_trip x y None then b m a f g h bc fc mc gc ac hc i j k p q r fits made got = tt
   round_trip x y (Some first) None b m a f g h bc fc mc gc ac hc i j k p q r fits made got = no_second first b a

@@ -28,7 +28,7 @@ use Rattle.command_words.specs.declared.option_table.OptionKind.TheVariants as o
 use Rattle.command_words.specs.declared.roles.Role.{Role}
 use Rattle.command_words.specs.declared.roles.Role.TheVariants as role
 use Rattle.command_words.specs.declared.usage.WordsFault.{WordsFault}
-use Rattle.desync_cli.specs.Commands.{DesyncEnds, CommandEnds, NoCommand, command_said}
+use Rattle.desync_cli.specs.Commands.{CommandEnds, DesyncEnds, NoCommand, SureTypes, command_said}
 use Rattle.desync_cli.proofs.Fair.{begun}
 use Rattle.desync_cli.proofs.Named.{AllShort, Shorts, bound, cache_opened, checked, chopped, counted, filled, image_opened, index_got, indexes_got, indexes_read, judged as sizes_judged, on_disk, on_out, on_sources, opened, or_unheard, out_made, printed, proxied, pruned, range_put, rehearsed, served, source_taken, stored, taken, unheard, verified, written}
 use Rattle.extract_command.specs.Extract.{never_fail, temporary_out}
@@ -57,13 +57,13 @@ HasShort n (commands.IndexServer store host port writable) = length store ≤ n
 HasShort n other = Unit {0}
 
 -- and so are those that its refusals tell
-command_short : (n : ℕ) (sure : Bool) (h : Heard) (c : Command) → HasShort n c → Shorts n (CommandEnds sure h c)
+command_short : (n : ℕ) (sure : SureTypes) (h : Heard) (c : Command) → HasShort n c → Shorts n (CommandEnds sure h c)
 command_short n sure h (commands.Make store sizes workers digest index image) f = bound (sizes_judged n sizes) (λ z. bound (on_disk (image_opened n image f.2)) (λ told. bound (on_disk (source_taken n _ store f.0)) (λ held. bound (on_sources (stored n digest z image told store held)) (λ bytes. on_disk (written n index bytes f.1)))))
 command_short n sure h (commands.VerifyIndex workers index image) f = bound (on_sources (index_got n index f.0)) (λ l. bound (on_disk (image_opened n image f.1)) (λ told. on_disk (checked n image l told)))
 command_short n sure h (commands.Chop store workers index image) f = bound (on_sources (index_got n index f.1)) (λ l. bound (on_disk (image_opened n image f.2)) (λ told. bound (on_disk (source_taken n _ store f.0)) (λ held. on_sources (chopped n l image told store held))))
 command_short n sure h (commands.Cache stores retries cache workers indexes) f = bound (on_disk (opened n (stores_of stores) f.0)) (λ u. bound (on_disk (cache_opened n (stores_of stores) (Some cache) (f.1, tt))) (λ u. on_sources (filled n stores retries cache workers indexes f.2)))
 command_short n sure h (commands.ListChunks index) f = bound (on_sources (index_got n index f)) (λ l. on_out (printed n _))
-command_short n sure h (commands.Extract stores retries seeds cache in_place workers index target) f = bound (on_sources (index_got n index f.3)) (λ l. bound (on_disk (indexes_read n seeds f.1)) (λ ls. bound (on_disk (opened n (stores_of stores) f.0)) (λ u. bound (on_disk (cache_opened n (stores_of stores) cache (cached cache f.2))) (λ u. out_made n (never_fail sure h.never_fails) in_place (record { groups = stores; retries = retries }) cache target l _ f.4 f.5)))) where
+command_short n sure h (commands.Extract stores retries seeds cache in_place workers index target) f = bound (on_sources (index_got n index f.3)) (λ l. bound (on_disk (indexes_read n seeds f.1)) (λ ls. bound (on_disk (opened n (stores_of stores) f.0)) (λ u. bound (on_disk (cache_opened n (stores_of stores) cache (cached cache f.2))) (λ u. out_made n (never_fail sure.target h.never_fails) in_place (record { groups = stores; retries = retries }) cache target l _ f.4 f.5)))) where
   cached : (cache : Option (List ℕ)) → AllShort n (named cache) → AllShort n (elim cache [ None ↦ [] | Some q ↦ q ∷ [] ])
   cached None all = all
   cached (Some q) all = all
@@ -76,7 +76,7 @@ command_short n sure h commands.Help f = on_out (printed n _)
 command_short n sure h commands.Version f = on_out (printed n _)
 command_short n sure h (commands.HelpOn kind) f = on_out (printed n _)
 command_short n sure h (commands.ChunkServer store host port writable workers digest) f = bound (on_disk (unheard n h store f)) (λ held. on_disk (served n h store held _ _))
-command_short n sure h (commands.Proxy stores retries cache host port workers digest) f = bound (on_disk (or_unheard n h _ (opened n (stores_of stores) f.0))) (λ u. bound (on_disk (or_unheard n h _ (cache_opened n (stores_of stores) (Some cache) (f.1, tt)))) (λ u. on_sources (proxied n h stores retries cache digest _)))
+command_short n sure h (commands.Proxy stores retries cache host port workers digest) f = bound (on_disk (or_unheard n h _ (opened n (stores_of stores) f.0))) (λ u. bound (on_disk (or_unheard n h _ (cache_opened n (stores_of stores) (Some cache) (f.1, tt)))) (λ u. on_sources (proxied n sure.looks h stores retries cache digest _)))
 command_short n sure h (commands.IndexServer store host port writable) f = bound (on_disk (unheard n h store f)) (λ held. on_disk (served n h store held _ _))
 
 -- ---- the words
@@ -207,7 +207,7 @@ module _ (k : ℕ) where
   unread_short words other h = absurd h
 
   -- the name that the outcome tells
-  pub short_name : (sure : Bool) (h : Heard) (words : List (List ℕ)) (w v : World) (r : Result Unit Outcome) → AllShort k words → DesyncEnds sure h words w r v → length (name_in (outcome_of r)) ≤ k + 11
+  pub short_name : (sure : SureTypes) (h : Heard) (words : List (List ℕ)) (w v : World) (r : Result Unit Outcome) → AllShort k words → DesyncEnds sure h words w r v → length (name_in (outcome_of r)) ≤ k + 11
   short_name sure h words w v (Ok u) all t = omega arith
   short_name sure h words w v (Err o) all (inl t) = unread_short words o t.0
   short_name sure h words w v (Err o) all (inr t) =

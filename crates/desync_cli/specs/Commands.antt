@@ -26,7 +26,7 @@ use Rattle.cat_command.specs.Cat.{CatEnds}
 use Rattle.store_commands.specs.Info.{InfoEnds}
 use Rattle.print_commands.specs.ListChunks.{ListChunksEnds}
 use Rattle.store_commands.specs.Prune.{IsPruned, PruneEnds}
-use Rattle.proxy_command.specs.ProxyServing.{ProxyServerEnds}
+use Rattle.proxy_command.specs.ProxyServing.{LookTypes, ProxyServerEnds}
 use Rattle.server_commands.specs.ChunkServing.{ChunkServerEnds}
 use Rattle.server_commands.specs.IndexServing.{IndexServerEnds}
 use Rattle.server_commands.specs.Serving.{Heard}
@@ -50,8 +50,17 @@ listens (commands.Proxy stores retries cache host port workers digest) = true
 listens (commands.IndexServer store host port writable) = true
 listens other = false
 
+-- what types say of calls: whether none on a target fails, and what those on folders that are looked at may answer
+pub record SureTypes : Type 0 where
+  pub target : Bool
+  pub looks : LookTypes
+
+-- types that say so
+abbrev pub sure_types : Bool → LookTypes → SureTypes
+sure_types target looks = record { target = target; looks = looks }
+
 -- how each ends, from the world before it to the world after it, where this was heard
-abbrev pub CommandEnds : Bool → Heard → Command → Step World Unit
+abbrev pub CommandEnds : SureTypes → Heard → Command → Step World Unit
 CommandEnds sure h (commands.Make store sizes workers digest index image) = MakeEnds store digest sizes index image
 CommandEnds sure h (commands.VerifyIndex workers index image) = VerifyIndexEnds index image
 CommandEnds sure h (commands.Chop store workers index image) = ChopEnds store index image
@@ -59,8 +68,8 @@ CommandEnds sure h (commands.Cache stores retries cache workers indexes) =
     CacheEnds stores retries cache workers indexes
 CommandEnds sure h (commands.ListChunks index) = ListChunksEnds index
 CommandEnds sure h (commands.Extract stores retries seeds cache in_place workers index target) =
-    ExtractEnds (never_fail sure h.never_fails) (record { groups = stores; retries = retries }) cache seeds in_place
-    index target
+    ExtractEnds (never_fail sure.target h.never_fails) (record { groups = stores; retries = retries }) cache seeds
+    in_place index target
 CommandEnds sure h (commands.Cat stores retries offset length index) = CatEnds stores retries offset length index
 CommandEnds sure h (commands.Info stores retries index) = InfoEnds stores retries index
 CommandEnds sure h (commands.Verify store repair workers digest) = VerifyEnds digest store repair
@@ -72,7 +81,7 @@ CommandEnds sure h (commands.HelpOn kind) = OnOut (Printed (help_text (topics.Co
 CommandEnds sure h (commands.ChunkServer store host port writable workers digest) =
     ChunkServerEnds digest h store writable workers
 CommandEnds sure h (commands.Proxy stores retries cache host port workers digest) =
-    ProxyServerEnds h stores retries cache digest workers
+    ProxyServerEnds sure.looks h stores retries cache digest workers
 CommandEnds sure h (commands.IndexServer store host port writable) = IndexServerEnds h store writable
 
 -- each group of stores is one store
@@ -157,7 +166,7 @@ parts h other = record { image = []; indexes = []; stores = []; target = []; cac
 
 -- what Done says of it, beside how it ends. An INDEX that is a URL spells what the body of an accepted reply 200
 -- spells, if the dialer tells its connections
-abbrev pub Achieves : Bool → Heard → Command → World → World → Type 0
+abbrev pub Achieves : SureTypes → Heard → Command → World → World → Type 0
 Achieves sure h (commands.Make store sizes workers digest index image) w v =
     IfSome w.disk.files (λ b. IfSome v.disk.files (λ a. (l : Listing)
     × IsMade b a digest sizes index image l × StoreHas (storage_of w) (storage_of v) store l))
@@ -225,7 +234,7 @@ WordsRead words w (Ok c) v = (command_of words ≡ Some c) × Fits c × (v ≡ w
 WordsRead words w (Err o) v = NoCommand words o × (v ≡ w)
 
 -- the words are read, and then the command does its steps
-abbrev pub DesyncEnds : Bool → Heard → List (List ℕ) → Step World Unit
+abbrev pub DesyncEnds : SureTypes → Heard → List (List ℕ) → Step World Unit
 DesyncEnds sure h words = do
   c ← WordsRead words
   CommandEnds sure h c

@@ -1,10 +1,11 @@
 //! The top call over files, folders and sinks in memory, which tell all that they hold.
 
-ghost use Rattle.std.specs.Prelude.{◌≡◌, IfSome, Some, false, map, string_bytes};
+ghost use Rattle.std.specs.Prelude.{◌≡◌, IfSome, Some, false, map, string_bytes, true};
 ghost use Rattle.command_worlds.specs.Steps.{answer_of};
 ghost use Rattle.command_worlds.specs.Worlds.{world};
-ghost use Rattle.desync_cli.specs.Commands.{Achieves, DesyncEnds, command_of};
+ghost use Rattle.desync_cli.specs.Commands.{Achieves, DesyncEnds, command_of, sure_types};
 ghost use Rattle.desync_cli.specs.RoundTrip.{InTurn, RoundTrip};
+ghost use Rattle.proxy_command.specs.ProxyServing.{look_types};
 ghost use Rattle.server_commands.specs.Serving.{heard};
 ghost use Rattle.dsy_base.specs.Disk.{Output};
 ghost use Rattle.dsy_forms.specs.MemFiles.{disk_of, files_of};
@@ -43,10 +44,12 @@ where
     D::Link: Send,
     L::Link: Send,
     ensures done { result.outcome ≡ Outcome.Done → IfSome (command_of (map string_bytes words.now))
-        (λ c. Achieves false (heard false (L.state memory.old.listen) (L.state memory.new.listen)) c
+        (λ c. Achieves (sure_types false (look_types false true))
+        (heard false (L.state memory.old.listen) (L.state memory.new.listen)) c
         (world (disk_of memory.old.files) (D.state memory.old.dial) (output_of memory.old.out))
         (world (disk_of memory.new.files) (D.state memory.new.dial) (output_of memory.new.out))) }
-    ensures ends { DesyncEnds false (heard false (L.state memory.old.listen) (L.state memory.new.listen))
+    ensures ends { DesyncEnds (sure_types false (look_types false true))
+        (heard false (L.state memory.old.listen) (L.state memory.new.listen))
         (map string_bytes words.now)
         (world (disk_of memory.old.files) (D.state memory.old.dial) (output_of memory.old.out))
         (answer_of result.outcome)

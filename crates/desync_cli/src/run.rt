@@ -1,6 +1,6 @@
 //! The top call: words in, an outcome out.
 
-ghost use Rattle.std.specs.Prelude.{◌≡◌, ◌≢◌, ◌⊎◌, All, None, Some, IfSome, false, map, string_bytes};
+ghost use Rattle.std.specs.Prelude.{◌≡◌, ◌≢◌, ◌⊎◌, All, None, Some, IfSome, false, map, string_bytes, true};
 ghost use Rattle.command_outcome.specs.ErrorLines.{error_line_of};
 ghost use Rattle.command_outcome.specs.Statuses.{status_of};
 ghost use Rattle.command_indexes.specs.Blames.{Blames, Keeps};
@@ -9,11 +9,12 @@ ghost use Rattle.command_words.specs.declared.command.Command.{Command};
 ghost use Rattle.desync_cli.specs.AtHand.{EndsAtHand};
 ghost use Rattle.desync_cli.specs.Unfailed.{IndexTaken, NothingFailed, RepliesTaken};
 ghost use Rattle.desync_cli.specs.Commands.{Achieves, DesyncEnds, CommandEnds, TellsRefusal, command_of, listens};
-ghost use Rattle.desync_cli.specs.Commands.{HasNoGroups, parts};
+ghost use Rattle.desync_cli.specs.Commands.{HasNoGroups, parts, sure_types};
 ghost use Rattle.desync_cli.specs.Commands.{LeavesBehind, usage_refusal, spares};
 ghost use Rattle.desync_cli.specs.Contents.{Contents};
 ghost use Rattle.desync_cli.specs.Exact.{IsExact, IsFaultless};
 ghost use Rattle.desync_cli.specs.Lines.{TakesLine};
+ghost use Rattle.proxy_command.specs.ProxyServing.{look_types};
 ghost use Rattle.server_commands.specs.Serving.{heard};
 ghost use Rattle.dsy_base.specs.Counts.{Quiet};
 ghost use Rattle.command_worlds.specs.Steps.{answer_of, outcome_of};
@@ -71,7 +72,7 @@ where
     L::Link: Send,
     requires { Fits command }
     ensures unheard { listens command ≡ false → listen.new ≡ listen.old }
-    ensures ends { CommandEnds F.Target.never_fails
+    ensures ends { CommandEnds (sure_types F.Target.never_fails (look_types F.Look.never_fails true))
         (heard F.Folder.never_fails (L.state listen.old) (L.state listen.new)) command
         (world (F.disk files.old) (D.state dial.old) (O.output out.old)) result
         (world (F.disk files.new) (D.state dial.new) (O.output out.new)) }
@@ -138,7 +139,7 @@ where
         × (dial.new ≡ dial.old) × (listen.new ≡ listen.old) × (out.new ≡ out.old) }
     ensures unheard { IfSome (command_of (map string_bytes words.now))
         (λ c. listens c ≡ false → listen.new ≡ listen.old) }
-    ensures ends { DesyncEnds F.Target.never_fails
+    ensures ends { DesyncEnds (sure_types F.Target.never_fails (look_types F.Look.never_fails true))
         (heard F.Folder.never_fails (L.state listen.old) (L.state listen.new))
         (map string_bytes words.now)
         (world (F.disk files.old) (D.state dial.old) (O.output out.old)) result
@@ -193,12 +194,13 @@ where
 
     // What the command that is done has achieved.
     ensures done { result.outcome ≡ Outcome.Done → IfSome (command_of (map string_bytes words.now))
-        (λ c. Achieves F.Target.never_fails (heard F.Folder.never_fails (L.state listen.old) (L.state listen.new)) c
+        (λ c. Achieves (sure_types F.Target.never_fails (look_types F.Look.never_fails true))
+        (heard F.Folder.never_fails (L.state listen.old) (L.state listen.new)) c
         (world (F.disk files.old) (D.state dial.old) (O.output out.old))
         (world (F.disk files.new) (D.state dial.new) (O.output out.new))) }
 
     // Each outcome comes only from a step whose refusal it is, where the steps before it have passed.
-    ensures ends { DesyncEnds F.Target.never_fails
+    ensures ends { DesyncEnds (sure_types F.Target.never_fails (look_types F.Look.never_fails true))
         (heard F.Folder.never_fails (L.state listen.old) (L.state listen.new))
         (map string_bytes words.now)
         (world (F.disk files.old) (D.state dial.old) (O.output out.old))

@@ -1,4 +1,4 @@
--- The cache and the stores of a server, when they are given back.
+-- The cache and the stores of a server, when they are given back. A store is a server.
 use Rattle.std.proofs.Common.{◌≡◌, ◌∙◌, ℕ, ◌≤◌, Bool, List, [], ◌∷◌, All, length, map, Some, IfSome, IsTrue, Result, sym, ap, subst, arith, slice_index_or}
 use Rattle.std.specs.List.{AllZip}
 use Rattle.std.specs.Map.{count_at}
@@ -32,8 +32,8 @@ use Rattle.dsy_base.specs.Maps.{Map, at_name}
 use Rattle.dsy_base.specs.declared.look.Look.{Ghosts as LookWords}
 use Rattle.locked_proxy.specs.Chains.{chain_places}
 use Rattle.locked_shelf.specs.Keepings.{KeepsOpening}
-use Rattle.proxy_command.specs.ProxyServing.{GroupsGet, ProxyServed, ServesProxyTo}
-use Rattle.proxy_command.specs.Reaching.{HasReached, chain_chunks}
+use Rattle.proxy_command.specs.ProxyServing.{GroupsGet, IsServedFrom, LookTypes, ProxyServed}
+use Rattle.proxy_command.specs.Reaching.{HasReached}
 use Rattle.server_commands.specs.Serving.{Heard}
 use Rattle.store_chain.specs.Chains.{Chained}
 use Rattle.store_group.specs.Groups.{Grouped}
@@ -104,18 +104,16 @@ module _ {L D K : Type 0} (look : LookWords L) (state : D → DialState) where
         let more = closes.0.disk.folder_counts t.place in
         omega (arith, added, more)
 
-    pub proxy_served : (h : Heard) (in_turn : Bool) (r : Result Unit Outcome) → IfSome s.files (λ first. KeepsOpening s.kind first t.files) → (IsTrue in_turn → most ≡ 1) → (IsTrue in_turn → AllZip (λ b c. AsksForChunks Words b.stores c.stores) before after)
-        → ServesProxyTo s.kind h s.files (chain_chunks Words.holds before) in_turn r → ProxyServed h groups again cache kind in_turn (storage w k) r (storage e j)
-    proxy_served h in_turn r kept one asks served = record {
+    pub proxy_served : (looks : LookTypes) (h : Heard) (in_turn : Bool) (r : Result Unit Outcome) → IsServedFrom looks h groups s.kind in_turn w.folders s.files t.files r → IfSome s.files (λ first. KeepsOpening s.kind first t.files) → (IsTrue in_turn → most ≡ 1) → (IsTrue in_turn → AllZip (λ b c. AsksForChunks Words b.stores c.stores) before after)
+        → ProxyServed looks h groups again cache kind in_turn (storage w k) r (storage e j)
+    proxy_served looks h in_turn r served kept one asks = record {
       held = s.files;
       was = subst (λ (q : List ℕ). IfSome w.folders (λ x. x q ≡ s.files)) reached.named (was_put d.folders s.place s.files);
       left = record { files = t.files; faults = t.faults };
       kept = subst (λ (n : DigestKind). IfSome s.files (λ first. KeepsOpening n first t.files)) reached.digest kept;
       back = back;
       counted = subst (λ (q : List ℕ). raised (count_at d.folder_counts q) t.faults ≤ count_at e.folder_counts q) t_is counted_at;
-      holds = chain_chunks Words.holds before;
-      known = reached.holds;
-      served = subst (λ (n : DigestKind). ServesProxyTo n h s.files (chain_chunks Words.holds before) in_turn r) reached.digest served;
+      serving = subst (λ (n : DigestKind). IsServedFrom looks h groups n in_turn w.folders s.files t.files r) reached.digest served;
       adds = record {
         files = closes.0.disk.files ∙ gave.files;
         counts = λ q. omega (arith, gave.counts q, closes.0.disk.counts q);

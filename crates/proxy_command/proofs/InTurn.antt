@@ -1,5 +1,5 @@
 -- Connections that were served one after the other, by one chain.
-use Rattle.std.proofs.Common.{◌≡◌, ◌∙◌, ◌⊎◌, ◌+◌, ◌++◌, ◌&&◌, ◌||◌, not, nat_le, ℕ, Bool, true, false, List, [], ◌∷◌, length, map, is_some, Option, Some, None, IfSome, IsTrue, Result, Ok, Err, refl, sym, ap, subst, inl, inr, arith}
+use Rattle.std.proofs.Common.{◌≡◌, ◌≢◌, ◌∙◌, ◌⊎◌, ◌+◌, ◌++◌, ◌≤◌, ℕ, Bool, true, false, List, [], ◌∷◌, length, map, is_some, Option, Some, None, IfSome, IsTrue, Result, Ok, Err, refl, sym, ap, subst, inl, inr, arith}
 use Rattle.std.proofs.lemmas.List.{length-append}
 use Rattle.std.proofs.lemmas.List.Elements.{All-cons, All-nil}
 use Rattle.std.specs.Prelude.{OnOk}
@@ -7,54 +7,71 @@ use Rattle.cache_store.specs.Shelves.{Shelf, Stocks}
 use Rattle.cache_store.specs.Through.{Behind}
 use Rattle.chunk_proxy.specs.Leaving.{KeepsBehind}
 use Rattle.chunk_proxy.specs.Obtaining.{IsRightChunk}
-use Rattle.chunk_proxy.specs.States.{is_sure, proxy_state, told_files, told_of}
+use Rattle.chunk_proxy.specs.States.{is_sure, proxy_state, told_of}
 use Rattle.chunk_proxy.specs.Talks.{proxy_protocol}
 use Rattle.chunk_store.specs.Folders.{chunks}
 use Rattle.chunk_store.specs.declared.id.DigestKind.{DigestKind}
 use Rattle.chunk_store.specs.declared.store.Store.{Ghosts as StoreWords}
 use Rattle.dir_store.specs.Names.{is_stranger}
 use Rattle.dsy_base.specs.Counts.{Rose}
-use Rattle.dsy_base.specs.Links.{ListenState}
+use Rattle.dsy_base.specs.Links.{LinkState, ListenState}
 use Rattle.dsy_base.specs.Maps.{Map}
 use Rattle.dsy_base.specs.declared.fault.IoFault.{IoFault}
 use Rattle.dsy_base.specs.declared.fault.IoFault.TheVariants as io
 use Rattle.http_serve.specs.Steps.{ServedState}
+use Rattle.locked_proxy.specs.Chains.{maps_all_told, maps_told}
+use Rattle.locked_proxy.specs.Replies.{EndsThrough}
 use Rattle.locked_shelf.specs.Keepings.{HoldsFor, KeepsOpening}
-use Rattle.proxy_command.specs.ProxyServing.{ServesProxyTo, untold}
-use Rattle.proxy_command.specs.Reaching.{IsProxied}
+use Rattle.locked_shelf.specs.Listening.{ServesAll, ServesSome}
+use Rattle.locked_shelf.specs.declared.serve_all.AllServed.{AllServed}
+use Rattle.locked_shelf.specs.declared.serve_all.AllServed.TheVariants as all
+use Rattle.proxy_command.specs.ProxyServing.{ServesProxyTo, ServesThreads, Supply, Surely, told_state}
+use Rattle.proxy_command.specs.Reaching.{IsProxied, chain_chunks}
 use Rattle.chunk_proxy.specs.States.{ProxyFiles}
+use Rattle.server_commands.specs.ChunkServing.{answer_of_sharing}
 use Rattle.server_commands.specs.Serving.{Listens, RunsOut, answer_of_serving, heard}
 use Rattle.store_chain.specs.Chains.{Chained}
 
--- ---- what is told
-
--- stores whose type tells nothing
-not_sure : {S : Type 0} (never : Bool) (store : StoreWords S) (holds : List (Option (Map (List ℕ)))) → store.tells ≡ false → is_sure never store holds ≡ false
-not_sure false store holds none = refl
-not_sure true store holds none = ap (λ (t : Bool). t && (store.never_fails && (not store.may_lack_memory || nat_le (length holds) 1))) none
-
-pub is_untold : {F S : Type 0} (files : F → Option (Map (List ℕ))) (never : Bool) (store : StoreWords S) (b : Behind F S) → store.tells ≡ false → proxy_state files never store b ≡ untold
-is_untold files never store b none =
-    ap (λ (t : Bool). record { files = told_files t (files b.shelf.folder) b.chain.asks; faults = 0 }) (not_sure never store (map store.holds b.chain.stores) none)
-
 -- ---- how serving ended
 
-module _ (kind : DigestKind) (never : Bool) (l m : ListenState) (held : Option (Map (List ℕ))) (holds : List (Option (Map (List ℕ)))) where
-  served_by : (r : Result Unit IoFault) → OnOk r (m.coming ≡ Some []) → OnOk r (Listens (proxy_protocol kind (told_of holds)) l m untold untold)
-      → (r ≡ Err io.Failed → Rose l.faults m.faults × Listens (proxy_protocol kind (told_of holds)) l m untold untold)
-      → (r ≡ Err io.Memory → RunsOut (proxy_protocol kind (told_of holds)) l m untold untold) → (r ≡ Err io.Memory → m.faults ≡ l.faults) → ServesProxyTo kind (heard never l m) held holds true (answer_of_serving r)
-  served_by (Ok u) end served failed lacking unfailed = (end, served)
-  served_by (Err io.Failed) end served failed lacking unfailed = failed refl
-  served_by (Err io.Memory) end served failed lacking unfailed = (lacking refl, unfailed refl)
+module _ (kind : DigestKind) (never : Bool) (l m : ListenState) (s : Supply) (stores replies : Bool) (asked : ℕ) where
+  abbrev Begins : ServedState ProxyFiles
+  Begins = told_state replies s.held asked
 
-  pub serves_to : (old new : ServedState ProxyFiles) → old ≡ untold → new ≡ untold → (r : Result Unit IoFault) → OnOk r (m.coming ≡ Some []) → OnOk r (Listens (proxy_protocol kind (told_of holds)) l m old new)
-      → (r ≡ Err io.Failed → Rose l.faults m.faults × Listens (proxy_protocol kind (told_of holds)) l m old new)
-      → (r ≡ Err io.Memory → RunsOut (proxy_protocol kind (told_of holds)) l m old new) → (r ≡ Err io.Memory → m.faults ≡ l.faults) → ServesProxyTo kind (heard never l m) held holds true (answer_of_serving r)
-  serves_to old new old_is new_is r end served failed lacking unfailed =
-      let P = proxy_protocol kind (told_of holds) in
-      let by : (s t : ServedState ProxyFiles) → Type 0 = λ s t. OnOk r (Listens P l m s t) × ((r ≡ Err io.Failed → Rose l.faults m.faults × Listens P l m s t) × (r ≡ Err io.Memory → RunsOut P l m s t)) in
-      let all : by untold untold = subst (λ t. by untold t) new_is (subst (λ s. by s new) old_is (served, (failed, lacking))) in
-      served_by r end all.0 all.1.0 all.1.1 unfailed
+  pub served_by : (new : ServedState ProxyFiles) → (asks : ℕ) → new ≡ told_state replies s.left asks → (r : Result Unit IoFault) → OnOk r (m.coming ≡ Some []) → OnOk r (Listens (proxy_protocol kind (told_of s.holds)) l m Begins new) → (r ≡ Err io.Failed → Rose l.faults m.faults × Listens (proxy_protocol kind (told_of s.holds)) l m Begins new) → (r ≡ Err io.Memory → RunsOut (proxy_protocol kind (told_of s.holds)) l m Begins new)
+      → (r ≡ Err io.Memory → m.faults ≡ l.faults) → ServesProxyTo kind (heard never l m) s (record { stores = stores; replies = replies }) true (answer_of_serving r)
+  served_by new asks is (Ok u) end served failed lacking unfailed = (end, record { asked = asked; asks = asks; served = subst (λ t. Listens (proxy_protocol kind (told_of s.holds)) l m Begins t) is served })
+  served_by new asks is (Err io.Failed) end served failed lacking unfailed =
+      let so = failed refl in
+      (so.0, record { asked = asked; asks = asks; served = subst (λ t. Listens (proxy_protocol kind (told_of s.holds)) l m Begins t) is so.1 })
+  served_by new asks is (Err io.Memory) end served failed lacking unfailed = (record { asked = asked; asks = asks; served = subst (λ t. RunsOut (proxy_protocol kind (told_of s.holds)) l m Begins t) is (lacking refl) }, unfailed refl)
+
+-- what the stores of the first chain hold, if there is one
+pub told_chains : {S : Type 0} (holds : S → Option (Map (List ℕ))) (chains : List (Chained S)) → 1 ≤ length chains → maps_told holds chains ≡ maps_all_told (chain_chunks holds chains)
+told_chains holds [] some = absurd (omega (arith, some))
+told_chains holds (c ∷ more) some = refl
+
+-- the same of connections that were served at the same time
+module _ (kind : DigestKind) (never : Bool) (l m : ListenState) (s : Supply) (sure : Surely) (tells : Bool) (told : is_some l.coming ≡ true → tells ≡ true) (maps : Option (List (Map (List ℕ)))) (is : maps ≡ maps_all_told s.holds) where
+  abbrev EndsBy : Option (List (Map (List ℕ))) → Bool → LinkState → Type 0
+  EndsBy known = EndsThrough kind s.held known never sure.stores tells
+
+  whole : ServesAll (EndsBy maps) l m → ServesThreads kind (heard never l m) s sure ServesAll
+  whole served = record { tells = tells; told = told; served = subst (λ (o : Option (List (Map (List ℕ)))). ServesAll (EndsBy o) l m) is served }
+
+  part : ServesSome (EndsBy maps) l m → ServesThreads kind (heard never l m) s sure ServesSome
+  part served = record { tells = tells; told = told; served = subst (λ (o : Option (List (Map (List ℕ)))). ServesSome (EndsBy o) l m) is served }
+
+  pub shared_to : (r : AllServed) → (r ≡ all.Ended → m.coming ≡ Some []) → (r ≢ all.Short → r ≢ all.Memory → ServesAll (EndsBy maps) l m) → ServesSome (EndsBy maps) l m → (r ≡ all.ListenFault → Rose l.faults m.faults) → ServesProxyTo kind (heard never l m) s sure false (answer_of_sharing r)
+  shared_to all.Ended end served lacking cause = (end refl, whole (served (λ e. cc) (λ e. cc)))
+  shared_to all.ListenFault end served lacking cause = (cause refl, whole (served (λ e. cc) (λ e. cc)))
+  shared_to all.Memory end served lacking cause = part lacking
+  shared_to all.Short end served lacking cause = part lacking
+
+-- a cache before stores that hold what they held is told as it was
+pub still_told : {F S : Type 0} (files : F → Option (Map (List ℕ))) (never : Bool) (store : StoreWords S) (old new : Behind F S) → map store.holds new.chain.stores ≡ map store.holds old.chain.stores
+    → proxy_state files never store new ≡ told_state (is_sure never store (map store.holds old.chain.stores)) (files new.shelf.folder) new.chain.asks
+still_told files never store old new same = ap (λ (holds : List (Option (Map (List ℕ)))). told_state (is_sure never store holds) (files new.shelf.folder) new.chain.asks) same
 
 -- ---- what it leaves
 

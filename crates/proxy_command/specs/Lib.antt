@@ -1,2 +1,3 @@
 pub mod ProxyServing
 pub mod Reaching
+pub mod FolderChains

@@ -1,16 +1,18 @@
 -- A cache that was taken, and chains of stores that were opened for the workers of a server: when they may be asked and
 -- given back, and what serving leaves of them.
-use Rattle.std.specs.Prelude.{◌≡◌, ℕ, ◌≤◌, Bool, List, [], ◌∷◌, All, length, map, max, Option, Some, IfSome, IsSome}
-use Rattle.std.specs.Prelude.{IsTrue}
+use Rattle.std.specs.Prelude.{◌≡◌, ℕ, ◌≤◌, Bool, false, List, [], ◌∷◌, All, length, map, max, Option, Some, IfSome}
+use Rattle.std.specs.Prelude.{IsSome, IsTrue}
 use Rattle.std.specs.List.{AllZip}
 use Rattle.cache_store.specs.Shelves.{Shelf, Shelved}
 use Rattle.chunk_proxy.specs.Leaving.{AsksForChunks}
+use Rattle.chunk_proxy.specs.States.{is_sure}
 use Rattle.chunk_store.specs.declared.id.DigestKind.{DigestKind}
 use Rattle.chunk_store.specs.declared.store.Store.{Ghosts as StoreWords}
 use Rattle.command_groups.specs.Chains.{CanGiveChain, IsChainOpened, chain_groups}
-use Rattle.command_groups.specs.Opened.{AreUnused, IsFresh}
+use Rattle.command_groups.specs.Opened.{AreUnused, IsFresh, files_in}
 use Rattle.command_steps.specs.AnyStores.{source_faults}
 use Rattle.command_steps.specs.Cache.{with_cache}
+use Rattle.command_steps.specs.Sources.{location_files}
 use Rattle.command_steps.specs.declared.any_store.AnyStore.{AnyStore}
 use Rattle.command_words.specs.declared.command.Location.{Location}
 use Rattle.dsy_base.specs.Disk.{Disk}
@@ -19,7 +21,7 @@ use Rattle.dsy_base.specs.Maps.{Map}
 use Rattle.dsy_base.specs.declared.look.Look.{Ghosts as LookWords}
 use Rattle.locked_proxy.specs.Chains.{IsChainOf, chain_places, maps_told}
 use Rattle.locked_shelf.specs.Keepings.{KeepsOpening}
-use Rattle.proxy_command.specs.ProxyServing.{group_chunks}
+use Rattle.proxy_command.specs.ProxyServing.{Surely, group_chunks}
 use Rattle.store_chain.specs.Chains.{Chained}
 use Rattle.store_group.specs.Groups.{Grouped}
 
@@ -27,6 +29,19 @@ use Rattle.store_group.specs.Groups.{Grouped}
 abbrev pub chain_chunks : {S : Type 0} → (S → Option (Map (List ℕ))) → List (Chained S) → List (Option (Map (List ℕ)))
 chain_chunks holds [] = []
 chain_chunks holds (c ∷ more) = map holds c.stores
+
+-- the files of the folders of its groups, where they are told
+abbrev pub chain_files : {L D K : Type 0} → (L → Option (Map (List ℕ))) → List (Chained (Grouped (AnyStore L D K)))
+    → List (List (Option (Map (List ℕ))))
+chain_files files [] = []
+chain_files files (c ∷ more) = map (files_in files) c.stores
+
+-- what the types of a cache's folder and of stores tell
+abbrev pub sure_by_types : {S : Type 0} → Bool → StoreWords S → List (Option (Map (List ℕ))) → Surely
+sure_by_types never_fails store holds = record {
+  stores = store.never_fails;
+  replies = is_sure never_fails store holds;
+}
 
 -- the chains name their chunks by this digest, and have the same stores
 abbrev pub AreLent : {S : Type 0} → StoreWords S → DigestKind → List (Chained S) → Type 0
@@ -54,7 +69,11 @@ pub record HasReached {L D K : Type 0} (look : LookWords L) (state : D → DialS
   pub some : 1 ≤ length chains
   pub few : length chains ≤ max 1 most
   pub lent : AreLent store kind chains
-  pub holds : IfSome (with_cache (Some s) d).folders (λ m. chain_chunks store.holds chains ≡ group_chunks m groups)
+  pub holds : IfSome (with_cache (Some s) d).folders
+      (λ m. chain_chunks store.holds chains ≡ group_chunks false m groups)
+  pub alike : All (λ c. map (files_in look.files) c.stores ≡ chain_files look.files chains) chains
+  pub found : IfSome (with_cache (Some s) d).folders
+      (λ m. chain_files look.files chains ≡ map (map (location_files m)) groups)
   pub located : All (λ c. chain_groups look c ≡ groups) chains
   pub given : All (CanGiveChain look d) chains
   pub fresh : All (λ c. All (IsFresh (source_faults look.faults state) retries) c.stores) chains

@@ -2,20 +2,22 @@
 //! doesn't give them, those of 1 to 16 stores, which may stand in groups, and which are added to it. Where N is 1
 //! connections are served one after the other, else each in a thread of its own.
 
-ghost use Rattle.std.specs.Prelude.{◌≡◌, ◌==◌, All, IsSome, Some};
+ghost use Rattle.std.specs.Prelude.{◌≡◌, ◌==◌, All, IsSome, Some, false, true};
 ghost use Rattle.cache_store.specs.Shelves.{shelf_of};
 ghost use Rattle.command_groups.specs.Chains.{CanGiveChain, IsChainGiven};
-ghost use Rattle.command_groups.specs.Groups.{AreGroups};
+ghost use Rattle.command_groups.specs.Groups.{AreGroups, stores_of};
 ghost use Rattle.command_steps.specs.Cache.{CacheGiven, with_cache};
 ghost use Rattle.command_steps.specs.Sources.{storage};
+ghost use Rattle.command_steps.specs.Stores.{are_folders};
 ghost use Rattle.command_steps.specs.Turns.{GivenInTurn};
 ghost use Rattle.command_worlds.specs.Worlds.{world};
 ghost use Rattle.dsy_base.specs.Disk.{Disk, Output};
-ghost use Rattle.proxy_command.specs.ProxyServing.{ProxyServed, ProxyServerEnds};
+ghost use Rattle.proxy_command.specs.ProxyServing.{ProxyServed, ProxyServerEnds, look_types};
 ghost use Rattle.proxy_command.specs.Reaching.{HasReached};
 ghost use Rattle.server_commands.specs.Serving.{heard};
 
 use crate::reach::{Reached, reach};
+use crate::serve_folders::{groups_are_folders, serve_folders};
 use crate::serving::serve_by;
 use chunk_store::id::DigestKind;
 use chunk_store::store::Store;
@@ -70,7 +72,37 @@ fn give_back<F: Files, D: Dial>(
     close_chains(files, dial, chains);
 }
 
-// Serves what was reached. Cache and stores are given back, whatever the answer is.
+// Serves what was reached, where a store is a server. Cache and stores are given back, whatever the answer is.
+fn serve_any<R: Threads + Wait + Sync, F: ImageFiles, D: Dial + Send, L: Listen>(
+    rt: &R,
+    alloc: Global,
+    files: &mut F,
+    dial: &mut D,
+    listen: &mut L,
+    words: &ProxyWords,
+    reached: Reached<F::Folder, Group<AnyStore<F::Look, D>>>,
+) -> Result<(), Outcome>
+where
+    F::Look: Send,
+    F::Folder: Send,
+    D::Link: Send,
+    L::Link: Send,
+    requires server { are_folders (stores_of words.now.stores) ≡ false }
+    requires reached { HasReached F.Look.Look D.state ⟦<Group<AnyStore<F::Look, D>> as Store>⟧
+        words.now.stores words.now.retries words.now.cache words.now.kind words.now.workers (F.disk files.old)
+        (shelf_of F.Folder.files F.Folder.place F.Folder.faults reached.shelf) reached.chains.items }
+    ensures served { ProxyServed (look_types F.Look.never_fails true)
+        (heard F.Folder.never_fails (L.state listen.old) (L.state listen.new))
+        words.now.stores words.now.retries words.now.cache words.now.kind (words.now.workers == 1)
+        (storage (with_cache (Some (shelf_of F.Folder.files F.Folder.place F.Folder.faults reached.shelf))
+        (F.disk files.old)) (D.state dial.old)) result (storage (F.disk files.new) (D.state dial.new)) }
+{
+    let (reached, answer) = serve_by(rt, alloc, listen, words, reached);
+    give_back(files, dial, words.cache.as_str(), reached);
+    answer
+}
+
+// Serves what was reached.
 fn serve_between<R: Threads + Wait + Sync, F: ImageFiles, D: Dial + Send, L: Listen>(
     rt: &R,
     alloc: Global,
@@ -85,17 +117,21 @@ where
     F::Folder: Send,
     D::Link: Send,
     L::Link: Send,
+    requires groups { AreGroups words.now.stores words.now.retries }
     requires reached { HasReached F.Look.Look D.state ⟦<Group<AnyStore<F::Look, D>> as Store>⟧
         words.now.stores words.now.retries words.now.cache words.now.kind words.now.workers (F.disk files.old)
         (shelf_of F.Folder.files F.Folder.place F.Folder.faults reached.shelf) reached.chains.items }
-    ensures served { ProxyServed (heard F.Folder.never_fails (L.state listen.old) (L.state listen.new))
+    ensures served { ProxyServed (look_types F.Look.never_fails true)
+        (heard F.Folder.never_fails (L.state listen.old) (L.state listen.new))
         words.now.stores words.now.retries words.now.cache words.now.kind (words.now.workers == 1)
         (storage (with_cache (Some (shelf_of F.Folder.files F.Folder.place F.Folder.faults reached.shelf))
         (F.disk files.old)) (D.state dial.old)) result (storage (F.disk files.new) (D.state dial.new)) }
 {
-    let (reached, answer) = serve_by(rt, alloc, listen, words, reached);
-    give_back(files, dial, words.cache.as_str(), reached);
-    answer
+    if groups_are_folders(words.stores.as_slice()) {
+        serve_folders(rt, alloc, files, listen, words, reached)
+    } else {
+        serve_any(rt, alloc, files, dial, listen, words, reached)
+    }
 }
 
 /// Serves the chunks of CACHE and of the stores over the connections that come at an address, until no more come. The
@@ -116,8 +152,10 @@ where
     L::Link: Send,
     requires groups { AreGroups words.stores words.retries }
     ensures ends { (p : Output) →
-        ProxyServerEnds (heard F.Folder.never_fails (L.state listen.old) (L.state listen.new)) words.stores
-        words.retries words.cache words.kind words.workers (world (F.disk files.old) (D.state dial.old) p) result
+        ProxyServerEnds (look_types F.Look.never_fails true)
+        (heard F.Folder.never_fails (L.state listen.old) (L.state listen.new))
+        words.stores words.retries words.cache words.kind words.workers
+        (world (F.disk files.old) (D.state dial.old) p) result
         (world (F.disk files.new) (D.state dial.new) p) }
 {
     let reached = match reach(alloc, files, dial, &words) {

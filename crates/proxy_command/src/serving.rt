@@ -3,8 +3,8 @@
 ghost use Rattle.std.specs.Prelude.{◌≡◌, ◌==◌, ◌<◌, false, true, length, map, vec_len, All, None, Some};
 ghost use Rattle.chunk_proxy.specs.Leaving.{KeepsBehind};
 ghost use Rattle.locked_proxy.specs.Chains.{IsChainOf, chain_places, maps_told};
-ghost use Rattle.proxy_command.specs.ProxyServing.{ServesProxyTo};
-ghost use Rattle.proxy_command.specs.Reaching.{AreLent, IsProxied, chain_chunks};
+ghost use Rattle.proxy_command.specs.ProxyServing.{ServesProxyTo, supply};
+ghost use Rattle.proxy_command.specs.Reaching.{AreLent, IsProxied, chain_chunks, sure_by_types};
 ghost use Rattle.server_commands.specs.Serving.{heard};
 
 use crate::proxy::ProxyWords;
@@ -32,10 +32,9 @@ fn serve_cached<W: Folder, S: Store, L: Listen>(
     cached: Cached<W, S>,
 ) -> (Cached<W, S>, Result<(), Outcome>)
     requires unnamed { (W.pairs ≡ None) × (W.stores ≡ None) }
-    requires tells { S.tells ≡ false }
-    ensures served { ServesProxyTo cached.chain.kind
-        (heard W.never_fails (L.state listen.old) (L.state listen.new)) (W.files cached.shelf.folder)
-        (map S.holds cached.chain.stores) true result.1 }
+    ensures served { ServesProxyTo cached.chain.kind (heard W.never_fails (L.state listen.old) (L.state listen.new))
+        (supply (W.files cached.shelf.folder) (W.files result.0.shelf.folder) (map S.holds cached.chain.stores))
+        (sure_by_types W.never_fails S.Store (map S.holds cached.chain.stores)) true result.1 }
     ensures changed { KeepsBehind W.files W.place W.faults S.Store cached result.0 }
     ensures place { W.place result.0.shelf.folder ≡ W.place cached.shelf.folder }
 {
@@ -52,12 +51,12 @@ fn serve_alone<W: Folder, S: Store, L: Listen>(
     reached: Reached<W, S>,
 ) -> (Reached<W, S>, Result<(), Outcome>)
     requires unnamed { (W.pairs ≡ None) × (W.stores ≡ None) }
-    requires tells { S.tells ≡ false }
     requires one { length reached.chains.items ≡ 1 }
     requires chains { AreLent S.Store reached.shelf.kind reached.chains.items }
-    ensures served { ServesProxyTo reached.shelf.kind
-        (heard W.never_fails (L.state listen.old) (L.state listen.new)) (W.files reached.shelf.folder)
-        (chain_chunks S.holds reached.chains.items) true result.1 }
+    ensures served { ServesProxyTo reached.shelf.kind (heard W.never_fails (L.state listen.old) (L.state listen.new))
+        (supply (W.files reached.shelf.folder) (W.files result.0.shelf.folder)
+        (chain_chunks S.holds reached.chains.items))
+        (sure_by_types W.never_fails S.Store (chain_chunks S.holds reached.chains.items)) true result.1 }
     ensures changed { IsProxied W.files W.place S.Store true reached.shelf result.0.shelf
         reached.chains.items result.0.chains.items }
 {
@@ -81,12 +80,12 @@ fn serve_shared<W: Folder + Send, S: Store + Send, L: Listen, R: Threads + Wait 
 ) -> (Reached<W, S>, Result<(), Outcome>)
 where
     L::Link: Send,
-    requires tells { S.never_fails ≡ false }
     requires some { 0 < vec_len reached.chains }
     requires chains { AreLent S.Store reached.shelf.kind reached.chains.items }
-    ensures served { ServesProxyTo reached.shelf.kind
-        (heard W.never_fails (L.state listen.old) (L.state listen.new)) (W.files reached.shelf.folder)
-        (chain_chunks S.holds reached.chains.items) false result.1 }
+    ensures served { ServesProxyTo reached.shelf.kind (heard W.never_fails (L.state listen.old) (L.state listen.new))
+        (supply (W.files reached.shelf.folder) (W.files result.0.shelf.folder)
+        (chain_chunks S.holds reached.chains.items))
+        (sure_by_types W.never_fails S.Store (chain_chunks S.holds reached.chains.items)) false result.1 }
     ensures changed { IsProxied W.files W.place S.Store false reached.shelf result.0.shelf
         reached.chains.items result.0.chains.items }
 {
@@ -108,13 +107,14 @@ pub(crate) fn serve_by<W: Folder + Send, S: Store + Send, L: Listen, R: Threads 
 where
     L::Link: Send,
     requires unnamed { (W.pairs ≡ None) × (W.stores ≡ None) }
-    requires tells { (S.tells ≡ false) × (S.never_fails ≡ false) }
     requires some { 0 < vec_len reached.chains }
     requires one { words.now.workers ≡ 1 → length reached.chains.items ≡ 1 }
     requires chains { AreLent S.Store reached.shelf.kind reached.chains.items }
-    ensures served { ServesProxyTo reached.shelf.kind
-        (heard W.never_fails (L.state listen.old) (L.state listen.new)) (W.files reached.shelf.folder)
-        (chain_chunks S.holds reached.chains.items) (words.now.workers == 1) result.1 }
+    ensures served { ServesProxyTo reached.shelf.kind (heard W.never_fails (L.state listen.old) (L.state listen.new))
+        (supply (W.files reached.shelf.folder) (W.files result.0.shelf.folder)
+        (chain_chunks S.holds reached.chains.items))
+        (sure_by_types W.never_fails S.Store (chain_chunks S.holds reached.chains.items))
+        (words.now.workers == 1) result.1 }
     ensures changed { IsProxied W.files W.place S.Store (words.now.workers == 1) reached.shelf result.0.shelf
         reached.chains.items result.0.chains.items }
 {
