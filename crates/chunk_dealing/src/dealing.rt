@@ -34,6 +34,7 @@ pub struct Dealer {
     rounds: usize,
     bytes: usize,
     pieces: usize,
+    seen: u8,
 }
 
 impl Dealer {
@@ -49,7 +50,15 @@ impl Dealer {
             rounds: 0,
             bytes: 0,
             pieces: 0,
+            seen: 0,
         }
+    }
+
+    // Whether the first worker keeps the next chunk. It adds what others read: beside a single one it has time to read
+    // a fourth.
+    fn keeps(&mut self) -> bool {
+        self.seen = self.seen.wrapping_add(1);
+        self.workers == 1 && self.seen % 4 == 0
     }
 
     // Goes on to the next worker, or begins a round with the first one.
@@ -128,16 +137,18 @@ pub fn marked_bytes(index: &Index, marks: &[bool]) -> usize {
     bytes
 }
 
-// The number of the worker that gets the chunk of entry i, if it is marked.
+// The number of the further worker that gets the chunk of entry i, if it is marked and the first one doesn't keep it.
 fn deal_entry(index: &Index, marks: &[bool], i: usize, dealer: &mut Dealer) -> u8
     requires { i < count_of index.now }
     ensures { 0 < result → slice_index_or marks.now i false ≡ true }
 {
-    if is_marked(marks, i) {
-        dealer.deal(index.entry(i).size)
-    } else {
-        0
+    if !is_marked(marks, i) {
+        return 0;
     }
+    if dealer.keeps() {
+        return 0;
+    }
+    dealer.deal(index.entry(i).size)
 }
 
 /// For each entry the number of the worker that is dealt it: only marked ones are dealt, by a dealer that hasn't begun.
