@@ -72,7 +72,7 @@ where
     L::Link: Send,
     requires { Fits command }
     ensures unheard { listens command ≡ false → listen.new ≡ listen.old }
-    ensures ends { CommandEnds (sure_types F.Target.never_fails (look_types F.Look.never_fails true))
+    ensures ends { CommandEnds (sure_types F.Target.never_fails (look_types F.Look.never_fails F.Look.may_lack_memory))
         (heard F.Folder.never_fails (L.state listen.old) (L.state listen.new)) command
         (world (F.disk files.old) (D.state dial.old) (O.output out.old)) result
         (world (F.disk files.new) (D.state dial.new) (O.output out.new)) }
@@ -139,7 +139,7 @@ where
         × (dial.new ≡ dial.old) × (listen.new ≡ listen.old) × (out.new ≡ out.old) }
     ensures unheard { IfSome (command_of (map string_bytes words.now))
         (λ c. listens c ≡ false → listen.new ≡ listen.old) }
-    ensures ends { DesyncEnds (sure_types F.Target.never_fails (look_types F.Look.never_fails true))
+    ensures ends { DesyncEnds (sure_types F.Target.never_fails (look_types F.Look.never_fails F.Look.may_lack_memory))
         (heard F.Folder.never_fails (L.state listen.old) (L.state listen.new))
         (map string_bytes words.now)
         (world (F.disk files.old) (D.state dial.old) (O.output out.old)) result
@@ -194,13 +194,13 @@ where
 
     // What the command that is done has achieved.
     ensures done { result.outcome ≡ Outcome.Done → IfSome (command_of (map string_bytes words.now))
-        (λ c. Achieves (sure_types F.Target.never_fails (look_types F.Look.never_fails true))
+        (λ c. Achieves (sure_types F.Target.never_fails (look_types F.Look.never_fails F.Look.may_lack_memory))
         (heard F.Folder.never_fails (L.state listen.old) (L.state listen.new)) c
         (world (F.disk files.old) (D.state dial.old) (O.output out.old))
         (world (F.disk files.new) (D.state dial.new) (O.output out.new))) }
 
     // Each outcome comes only from a step whose refusal it is, where the steps before it have passed.
-    ensures ends { DesyncEnds (sure_types F.Target.never_fails (look_types F.Look.never_fails true))
+    ensures ends { DesyncEnds (sure_types F.Target.never_fails (look_types F.Look.never_fails F.Look.may_lack_memory))
         (heard F.Folder.never_fails (L.state listen.old) (L.state listen.new))
         (map string_bytes words.now)
         (world (F.disk files.old) (D.state dial.old) (O.output out.old))

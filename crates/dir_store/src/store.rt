@@ -76,6 +76,7 @@ impl<F: Look> DirStore<F> {
     fn read(&mut self, id: &ChunkId, out: &mut [u8]) -> Result<usize, GetFault>
         ensures bytes { IfSome (option_map chunks (F.files self.old)) (λ m. GetGives (m id.now.0) result out.new) }
         ensures size { IfOk result (λ n. n ≤ length out.new) }
+        ensures only { result ≡ Err GetFault.Memory → IsTrue F.may_lack_memory }
         ensures kept { F.files self.new ≡ F.files self.old }
         ensures place { F.place self.new ≡ F.place self.old }
         ensures unfailed { result ≢ Err GetFault.Failed → F.faults self.new ≡ F.faults self.old }
@@ -163,7 +164,6 @@ impl<F: Folder> DirStore<F> {
 }
 
 impl<F: Look> Store for DirStore<F> {
-    ghost use Rattle.std.specs.Prelude.{true};
     ghost use Rattle.std.specs.Option.{option_map};
     ghost use Rattle.chunk_store.specs.Folders.{chunks};
     ghost use Rattle.chunk_store.specs.Said.{said_by, says_map};
@@ -187,7 +187,7 @@ impl<F: Look> Store for DirStore<F> {
 
     ghost never_fails = { F.never_fails };
 
-    ghost may_lack_memory = { true };
+    ghost may_lack_memory = { F.may_lack_memory };
 
     fn get(&mut self, id: &ChunkId, out: &mut [u8]) -> Result<usize, GetFault> {
         self.read(id, out)

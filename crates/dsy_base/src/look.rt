@@ -1,6 +1,7 @@
 //! A folder as one reads it. Names are relative to it, with `/` between components.
 
-ghost use Rattle.std.specs.Prelude.{◌≡◌, ◌≢◌, ℕ, Bool, Err, IsTrue, List, ◌≤◌, Option, IfSome, IfOk, is_some, length};
+ghost use Rattle.std.specs.Prelude.{◌≡◌, ◌≢◌, ℕ, Bool, true, Err, IsTrue, List, ◌≤◌, Option, IfSome, IfOk, is_some};
+ghost use Rattle.std.specs.Prelude.{length};
 ghost use Rattle.dsy_base.specs.Counts.{CountsFaults};
 ghost use Rattle.dsy_base.specs.Maps.{Map, IsNamesOf, ReadGives};
 
@@ -24,10 +25,14 @@ pub trait Look: Drop {
     /// Whether the type never fails.
     ghost never_fails: { Bool };
 
+    /// Whether `read` and `has` may answer that there was no memory.
+    ghost may_lack_memory: { Bool } = { true };
+
     /// Reads a file from its beginning to its end, and answers the number of its bytes.
     fn read(&mut self, name: &str, out: &mut [u8]) -> Result<usize, FileFault>
         ensures bytes { IfSome (files self.old) (λ m. ReadGives (m name.now) result out.new) }
         ensures size { IfOk result (λ n. n ≤ length out.new) }
+        ensures only { result ≡ Err FileFault.Memory → IsTrue may_lack_memory }
         ensures kept { files self.new ≡ files self.old }
         ensures place { place self.new ≡ place self.old }
         ensures unfailed { result ≢ Err FileFault.Failed → faults self.new ≡ faults self.old }
@@ -36,6 +41,7 @@ pub trait Look: Drop {
     /// Whether there is a file of this name.
     fn has(&mut self, name: &str) -> Result<bool, IoFault>
         ensures found { IfOk result (λ b. IfSome (files self.old) (λ m. b ≡ is_some (m name.now))) }
+        ensures only { result ≡ Err IoFault.Memory → IsTrue may_lack_memory }
         ensures kept { files self.new ≡ files self.old }
         ensures place { place self.new ≡ place self.old }
         ensures faults { CountsFaults IoFault.Failed IoFault.Memory (faults self.old) (faults self.new) result };

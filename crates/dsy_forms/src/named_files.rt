@@ -16,7 +16,7 @@ use std::collections::BTreeMap;
 /// Reads the whole of `b`, if it fits.
 pub fn read_whole(b: &[u8], out: &mut [u8]) -> Result<usize, FileFault>
     ensures bytes { ReadGives (Some b.now) result out.new }
-    ensures only { result ≢ Err FileFault.Failed }
+    ensures only { (result ≢ Err FileFault.Failed) × (result ≢ Err FileFault.Memory) }
 {
     let n = b.len();
     if out.len() < n {

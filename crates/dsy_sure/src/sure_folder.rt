@@ -67,7 +67,7 @@ impl SlotFolder for SureFolder {
 }
 
 impl Look for SureFolder {
-    ghost use Rattle.std.specs.Prelude.{Some, true, refl};
+    ghost use Rattle.std.specs.Prelude.{Some, false, true, refl};
     ghost use Rattle.dsy_forms.specs.Trees.{map_of};
 
     ghost files = { λ d. Some (map_of d.files) };
@@ -79,6 +79,8 @@ impl Look for SureFolder {
     ghost tells = { true };
 
     ghost never_fails = { true };
+
+    ghost may_lack_memory = { false };
 
     fn read(&mut self, name: &str, out: &mut [u8]) -> Result<usize, FileFault> {
         match self.files.get(name) {

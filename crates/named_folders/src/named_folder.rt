@@ -94,6 +94,8 @@ impl<F: Folder, N: FolderName> Look for NamedFolder<F, N> {
 
     ghost never_fails = { F.never_fails };
 
+    ghost may_lack_memory = { F.may_lack_memory };
+
     fn read(&mut self, name: &str, out: &mut [u8]) -> Result<usize, FileFault> {
         self.folder.read(name, out)
     }

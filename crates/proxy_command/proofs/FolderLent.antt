@@ -42,7 +42,7 @@ folder_words look = record {
   place = λ s. look.place s;
   tells = look.tells;
   never_fails = look.never_fails;
-  may_lack_memory = true;
+  may_lack_memory = look.may_lack_memory;
 }
 
 abbrev pub folder_group_words : {L : Type 0} → LookWords L → StoreWords (Grouped L)
@@ -199,10 +199,10 @@ module _ {L D K : Type 0} (look : LookWords L) (groups : List (List Location)) (
 
 -- what the types of folders tell, by what the command says of them
 pub folders_sure : {L : Type 0} (look : LookWords L) (never : Bool) (l m : ListenState) (groups : List (List Location)) (disk : Option (Map (Map (List ℕ)))) (holds : List (Option (Map (List ℕ)))) → are_folders (stores_of groups) ≡ true → is_some disk ≡ look.tells → length holds ≡ length groups
-    → sure_by_types never (folder_group_words look) holds ≡ surely (look_types look.never_fails true) (heard never l m) groups disk
+    → sure_by_types never (folder_group_words look) holds ≡ surely (look_types look.never_fails look.may_lack_memory) (heard never l m) groups disk
 folders_sure look never l m groups disk holds all tells many =
-    let x : look.never_fails ≡ stores_never_fail (look_types look.never_fails true) groups = sym (and_true look.never_fails (are_folders (stores_of groups)) all) in
-    λ i. record { stores = x i; replies = never && ((x i && sym tells i) && (x i && nat_le (many i) 1)) }
+    let x : look.never_fails ≡ stores_never_fail (look_types look.never_fails look.may_lack_memory) groups = sym (and_true look.never_fails (are_folders (stores_of groups)) all) in
+    λ i. record { stores = x i; replies = never && ((x i && sym tells i) && (x i && (not look.may_lack_memory || nat_le (many i) 1))) }
 
 abbrev none_sure : Bool → Surely
 none_sure never = record { stores = false; replies = never && false }

@@ -91,7 +91,7 @@ where
     requires reached { HasReached F.Look.Look D.state ⟦<Group<AnyStore<F::Look, D>> as Store>⟧
         words.now.stores words.now.retries words.now.cache words.now.kind words.now.workers (F.disk files.old)
         (shelf_of F.Folder.files F.Folder.place F.Folder.faults reached.shelf) reached.chains.items }
-    ensures served { ProxyServed (look_types F.Look.never_fails true)
+    ensures served { ProxyServed (look_types F.Look.never_fails F.Look.may_lack_memory)
         (heard F.Folder.never_fails (L.state listen.old) (L.state listen.new))
         words.now.stores words.now.retries words.now.cache words.now.kind (words.now.workers == 1)
         (storage (with_cache (Some (shelf_of F.Folder.files F.Folder.place F.Folder.faults reached.shelf))
@@ -121,7 +121,7 @@ where
     requires reached { HasReached F.Look.Look D.state ⟦<Group<AnyStore<F::Look, D>> as Store>⟧
         words.now.stores words.now.retries words.now.cache words.now.kind words.now.workers (F.disk files.old)
         (shelf_of F.Folder.files F.Folder.place F.Folder.faults reached.shelf) reached.chains.items }
-    ensures served { ProxyServed (look_types F.Look.never_fails true)
+    ensures served { ProxyServed (look_types F.Look.never_fails F.Look.may_lack_memory)
         (heard F.Folder.never_fails (L.state listen.old) (L.state listen.new))
         words.now.stores words.now.retries words.now.cache words.now.kind (words.now.workers == 1)
         (storage (with_cache (Some (shelf_of F.Folder.files F.Folder.place F.Folder.faults reached.shelf))
@@ -152,7 +152,7 @@ where
     L::Link: Send,
     requires groups { AreGroups words.stores words.retries }
     ensures ends { (p : Output) →
-        ProxyServerEnds (look_types F.Look.never_fails true)
+        ProxyServerEnds (look_types F.Look.never_fails F.Look.may_lack_memory)
         (heard F.Folder.never_fails (L.state listen.old) (L.state listen.new))
         words.stores words.retries words.cache words.kind words.workers
         (world (F.disk files.old) (D.state dial.old) p) result

@@ -80,7 +80,7 @@ where
     requires reached { HasReached F.Look.Look D.state ⟦<Group<AnyStore<F::Look, D>> as Store>⟧
         words.now.stores words.now.retries words.now.cache words.now.kind words.now.workers (F.disk files.old)
         (shelf_of F.Folder.files F.Folder.place F.Folder.faults reached.shelf) reached.chains.items }
-    ensures served { IsServedFrom (look_types F.Look.never_fails true)
+    ensures served { IsServedFrom (look_types F.Look.never_fails F.Look.may_lack_memory)
         (heard F.Folder.never_fails (L.state listen.old) (L.state listen.new)) words.now.stores reached.shelf.kind
         (words.now.workers == 1)
         (with_cache (Some (shelf_of F.Folder.files F.Folder.place F.Folder.faults reached.shelf))
@@ -120,7 +120,7 @@ where
     requires reached { HasReached F.Look.Look D.state ⟦<Group<AnyStore<F::Look, D>> as Store>⟧
         words.now.stores words.now.retries words.now.cache words.now.kind words.now.workers (F.disk files.old)
         (shelf_of F.Folder.files F.Folder.place F.Folder.faults reached.shelf) reached.chains.items }
-    ensures served { (k : DialState) → ProxyServed (look_types F.Look.never_fails true)
+    ensures served { (k : DialState) → ProxyServed (look_types F.Look.never_fails F.Look.may_lack_memory)
         (heard F.Folder.never_fails (L.state listen.old) (L.state listen.new))
         words.now.stores words.now.retries words.now.cache words.now.kind (words.now.workers == 1)
         (storage (with_cache (Some (shelf_of F.Folder.files F.Folder.place F.Folder.faults reached.shelf))

@@ -39,7 +39,7 @@ returns g c =
     let folders = (with_cache (Some s) (at c.args.files.now)).folders in
     let holds = chain_chunks store.holds old.chains.items in
     let none = c.requires.server in
-    let looks = look_types look.never_fails true in
+    let looks = look_types look.never_fails look.may_lack_memory in
     let served = served_from looks (heard D.never_fails before after) words.stores s.kind (words.workers == 1) folders s.files t.files c.serve_by-reached.result.1 false (sure_by_types D.never_fails store holds) holds
     (sym (and_none look.never_fails _ none)) (others_sure store looks D.never_fails before after words.stores folders holds none refl refl) reached.holds over.served in
     record {

@@ -26,5 +26,5 @@ returns g c =
     let t = shelf_of D.files D.place D.faults c.serve_stores-shelf.result.0 in
     record {
       served = λ k. folders_served words.stores words.retries words.cache words.kind s t (at c.args.files.now) (at c.serve_stores-shelf.new.files) (at c.give_shelf.new.files) over.kept c.give_shelf.ensures.given reached.named over.place reached.digest c.requires.folders
-          (look_types g.F.Look.Look.never_fails true) (heard D.never_fails (g.L.Listen.state c.args.listen.now) (g.L.Listen.state c.serve_stores-shelf.new.listen)) (words.workers == 1) k c.serve_stores-shelf.result.1 over.served over.stocks;
+          (look_types g.F.Look.Look.never_fails g.F.Look.Look.may_lack_memory) (heard D.never_fails (g.L.Listen.state c.args.listen.now) (g.L.Listen.state c.serve_stores-shelf.new.listen)) (words.workers == 1) k c.serve_stores-shelf.result.1 over.served over.stocks;
     }

@@ -63,7 +63,7 @@ returns-in-Ok-clause-served g c =
     let tells = told_with _ d.folders ∙ (g.met.F.Files.told c.args.files.now).1 ∙ both_tell g.F.Files.tells look.tells (λ t. (g.met.F.Files.alike.0 t).2) g.met.F.ImageFiles.unseen.0 in
     let sure = folders_sure look D.never_fails l m words.stores folders holds c.requires.folders tells many in
     let same = sym (and_true look.never_fails _ c.requires.folders) in
-    served_from (look_types look.never_fails true) (heard D.never_fails l m) words.stores old.shelf.kind (words.workers == 1) folders (D.files old.shelf.folder) (D.files c.serve_by-reached.result.0.shelf.folder) c.serve_by-reached.result.1 look.never_fails (sure_by_types D.never_fails store holds) holds same sure known over.served
+    served_from (look_types look.never_fails look.may_lack_memory) (heard D.never_fails l m) words.stores old.shelf.kind (words.workers == 1) folders (D.files old.shelf.folder) (D.files c.serve_by-reached.result.0.shelf.folder) c.serve_by-reached.result.1 look.never_fails (sure_by_types D.never_fails store holds) holds same sure known over.served
 
 pub returns-in-Ok-clause-stocks : goal.returns-in-Ok-clause-stocks
 returns-in-Ok-clause-stocks g c = c.serve_by-reached.ensures.changed.kept
@@ -82,4 +82,4 @@ returns-in-Err-clause-served g c =
     let words = c.args.words.now in
     let old = c.args.reached in
     let s = shelf_of D.files D.place D.faults old.shelf in
-    none_served (look_types g.F.Look.Look.never_fails true) D.never_fails (g.L.Listen.state c.args.listen.now) words.stores old.shelf.kind (D.files old.shelf.folder) (words.workers == 1) (with_cache (Some s) (g.F.Files.disk c.args.files.now)).folders
+    none_served (look_types g.F.Look.Look.never_fails g.F.Look.Look.may_lack_memory) D.never_fails (g.L.Listen.state c.args.listen.now) words.stores old.shelf.kind (D.files old.shelf.folder) (words.workers == 1) (with_cache (Some s) (g.F.Files.disk c.args.files.now)).folders
