@@ -1,13 +1,12 @@
 -- What groups that were given back have said and counted, as the words that name them.
 use Rattle.std.proofs.Common.{◌≡◌, ◌⊎◌, ◌+◌, ◌*◌, ◌<◌, ◌≤◌, ℕ, zero, suc, List, [], ◌∷◌, length, map, Option, Some, None, IfSome, subst, inl, inr, arith}
 use Rattle.std.proofs.Math.Nat.{mul-le-mul_right}
-use Rattle.std.proofs.lemmas.Bool.{cases_lt}
 use Rattle.std.proofs.lemmas.List.Elements.{All-cons, All-from_recursion, All-head, All-nil, All-tail}
 use Rattle.std.specs.List.{All, zip}
 use Rattle.chunk_store.specs.Said.{KeepsOf, Said}
 use Rattle.command_groups.specs.Lacking.{GroupRose, RoseBy, group_said}
 use Rattle.command_groups.specs.Opened.{IsGroupGiven, files_in, locations_in}
-use Rattle.command_steps.proofs.Dialed.{any_among}
+use Rattle.command_steps.proofs.Dialed.{at_least_among}
 use Rattle.command_steps.proofs.Given.{Stands, all_stand}
 use Rattle.command_steps.proofs.Numbers.{rose_later}
 use Rattle.command_steps.specs.AnyStores.{IsGiven, location_in, said_in, source_faults}
@@ -44,13 +43,6 @@ module _ {S : Type 0} (location : S → Location) (said : S → Said) (counted :
 
 -- ---- what they have counted
 
--- n faults and more were added, of which some were replies that weren't taken
-counted_by : (a b f r n : ℕ) → raised a f ≤ b → raised 0 n ≤ raised f r → (raised a n ≤ b) ⊎ (0 < r)
-counted_by a b f r n added counted = elim (cases_lt 0 r) [
-  | inl some ↦ inr some
-  | inr none ↦ inl (omega (arith, added, counted, none))
-]
-
 some_failed : (n : ℕ) → Rose 0 n → 1 ≤ n
 some_failed n (inl more) = omega (arith, more)
 some_failed n (inr full) = omega (arith, full)
@@ -59,10 +51,13 @@ module _ {L D K : Type 0} (place : L → List ℕ) (faults : L → ℕ) (state :
   -- a store that has failed so often, its words have
   pub rose_by : (n : ℕ) (s : AnyStore L D K) → IsGiven place faults state w v s → raised 0 n ≤ source_faults faults state s → RoseBy n w v (location_in place s)
   rose_by n (stores.Folder l) given counted = omega (arith, given, counted)
-  rose_by n (stores.Http r) given counted = elim (counted_by w.dial.faults v.dial.faults (state r.dial).faults r.refused n given.faults counted) [
-    | inl dialed ↦ inl dialed
-    | inr some ↦ inr (any_among (IsUnacceptable r.server) (state r.dial).ended (since w.dial.ended v.dial.ended) given.ended (given.cause some))
-  ]
+  rose_by n (stores.Http r) given counted = (
+    (state r.dial).faults,
+    r.refused,
+    omega (arith, counted),
+    given.faults,
+    at_least_among (IsUnacceptable r.server) r.refused (state r.dial).ended (since w.dial.ended v.dial.ended) given.ended given.cause,
+  )
 
   each_rose : (n : ℕ) (xs : List (AnyStore L D K)) → All (IsGiven place faults state w v) xs → All (λ s. raised 0 n ≤ source_faults faults state s) xs → All (RoseBy n w v) (map (location_in place) xs)
   each_rose n [] given counted = All-nil (RoseBy n w v)

@@ -1,6 +1,6 @@
 -- What groups of stores have said of a chunk that they don't give, and which of them failed.
 use Rattle.std.specs.Prelude.{◌≡◌, ◌⊎◌, ℕ, ◌+◌, ◌≤◌, List, IfSome}
-use Rattle.std.specs.List.{All, Any}
+use Rattle.std.specs.List.{All}
 use Rattle.std.specs.Map.{count_at}
 use Rattle.chunk_store.specs.Said.{Said}
 use Rattle.command_groups.specs.Groups.{first_store}
@@ -11,6 +11,7 @@ use Rattle.command_words.specs.declared.command.Location.{Location}
 use Rattle.command_words.specs.declared.command.Location.TheVariants as locations
 use Rattle.dsy_base.specs.Counts.{raised}
 use Rattle.http_read.specs.Refusals.{IsUnacceptable}
+use Rattle.http_read.specs.Remotes.{AtLeast}
 use Rattle.store_chain.specs.Lists.{FirstAt}
 use Rattle.store_chain.specs.Refusals.{HasShown, Lacks}
 use Rattle.store_chain.specs.declared.query.Query.{Query}
@@ -22,12 +23,13 @@ use Rattle.store_group.specs.Groups.{said_of}
 abbrev pub group_said : Storage → Storage → List Location → Said
 group_said w v g = said_of (said_at w v) g
 
--- n calls on the folder have failed, or its count stands at its greatest value; or n on connections have, or
--- a reply of the server wasn't taken
+-- n calls on the folder have failed, or its count stands at its greatest value; or some calls on connections have and
+-- some replies of the server weren't taken, n in all
 abbrev pub RoseBy : ℕ → Storage → Storage → Location → Type 0
 RoseBy n w v (locations.Folder q) = raised (count_at w.disk.folder_counts q) n ≤ count_at v.disk.folder_counts q
-RoseBy n w v (locations.Http host port prefix) = (raised w.dial.faults n ≤ v.dial.faults)
-    ⊎ IfSome (since w.dial.ended v.dial.ended) (Any (IsUnacceptable (server_at host port prefix)))
+RoseBy n w v (locations.Http host port prefix) = (calls : ℕ) × (replies : ℕ) × (raised 0 n ≤ calls + replies)
+    × (raised w.dial.faults calls ≤ v.dial.faults)
+    × IfSome (since w.dial.ended v.dial.ended) (AtLeast replies (IsUnacceptable (server_at host port prefix)))
 
 -- each store of the group has failed in e + 1 calls
 abbrev pub GroupRose : ℕ → Storage → Storage → List Location → Type 0

@@ -1,5 +1,5 @@
 -- Dialers over several steps: what has ended stands among what has ended later, or since earlier.
-use Rattle.std.proofs.Common.{◌≡◌, ◌∙◌, ◌+◌, ℕ, List, [], ◌++◌, length, Option, Some, None, IfSome, is_some, refl, sym, ap, subst, arith}
+use Rattle.std.proofs.Common.{◌≡◌, ◌∙◌, ◌+◌, ◌<◌, ℕ, zero, suc, List, [], ◌∷◌, ◌++◌, length, Option, Some, None, IfSome, is_some, refl, sym, ap, subst, inl, inr, arith}
 use Rattle.std.proofs.lemmas.List.{append-nil, append_assoc, get_or-append-add, get_or_append_left, length-append}
 use Rattle.std.proofs.Math.Seq.{drop-append_seam}
 use Rattle.std.specs.List.{Any}
@@ -7,8 +7,9 @@ use Rattle.command_steps.specs.AnyStores.{IsJoined}
 use Rattle.command_steps.specs.Dials.{AreAmong, Dials, EndedGrows, since}
 use Rattle.dsy_base.specs.Counts.{raised}
 use Rattle.dsy_base.specs.Links.{DialState, Traffic, with_all}
+use Rattle.http_read.proofs.Ended.{at_least_before}
 use Rattle.http_read.specs.Asks.{Server}
-use Rattle.http_read.specs.Remotes.{HasCause}
+use Rattle.http_read.specs.Remotes.{AtLeast, HasCause}
 
 -- ---- one dialer later
 
@@ -86,6 +87,31 @@ any_among P o None among h = tt
 any_among P o (Some t) among h =
     let s : Any P among.0 = subst (λ r. IfSome r (Any P)) among.1 h in
     subst (λ l. Any P l) (sym among.4) (any_inside P among.2 among.0 among.3 s)
+
+-- so of at least n of them
+at_least_behind : (P : Traffic → Type 0) (n : ℕ) (front s : List Traffic) → AtLeast n P s → AtLeast n P (front ++ s)
+at_least_behind P n [] s h = h
+at_least_behind P zero (t ∷ front) s h = tt
+at_least_behind P (suc n) (t ∷ front) s h = inr (at_least_behind P (suc n) front s h)
+
+pub at_least_among : (P : Traffic → Type 0) (n : ℕ) (o a : Option (List Traffic)) → AreAmong o a → IfSome o (AtLeast n P) → IfSome a (AtLeast n P)
+at_least_among P n o None among h = tt
+at_least_among P n o (Some t) among h =
+    let s : AtLeast n P among.0 = subst (λ r. IfSome r (AtLeast n P)) among.1 h in
+    subst (λ l. AtLeast n P l) (sym among.4) (at_least_behind P n among.2 (among.0 ++ among.3) (at_least_before P n among.0 among.3 s))
+
+-- one of them, where there are some
+pub some_of_those : (P : Traffic → Type 0) (n : ℕ) (ts : List Traffic) → 0 < n → AtLeast n P ts → Any P ts
+some_of_those P zero ts some h = absurd (omega (arith, some))
+some_of_those P (suc n) [] some h = absurd h
+some_of_those P (suc n) (t ∷ ts) some (inl h) = (0, t, omega arith, refl, h.0)
+some_of_those P (suc n) (t ∷ ts) some (inr h) =
+    let rest : Any P ts = some_of_those P (suc n) ts some h in
+    (suc rest.0, rest.1, omega (arith, rest.2), rest.3, rest.4)
+
+pub some_shown : (P : Traffic → Type 0) (n : ℕ) (o : Option (List Traffic)) → 0 < n → IfSome o (AtLeast n P) → IfSome o (Any P)
+some_shown P n None some h = tt
+some_shown P n (Some ts) some h = some_of_those P n ts some h
 
 pub any_longer : (P : Traffic → Type 0) (a b c : Option (List Traffic)) → EndedGrows a b → EndedGrows b c → IfSome (since a b) (Any P) → IfSome (since a c) (Any P)
 any_longer P a b c g h any = any_among P (since a b) (since a c) (among_longer (since a b) a b c g h (among_itself (since a b))) any

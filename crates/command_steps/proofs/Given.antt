@@ -11,7 +11,7 @@ use Rattle.chunk_store.specs.Folders.{chunks}
 use Rattle.chunk_store.specs.Said.{KeepsOf, Said, said_by}
 use Rattle.command_words.specs.declared.command.Location.{Location}
 use Rattle.command_words.specs.declared.command.Location.TheVariants as locations
-use Rattle.command_steps.proofs.Dialed.{among_earlier, among_longer, any_among}
+use Rattle.command_steps.proofs.Dialed.{among_earlier, among_longer, any_among, some_shown}
 use Rattle.command_steps.proofs.Lent.{quiet_count, rose_count}
 use Rattle.command_steps.proofs.Numbers.{rose_later}
 use Rattle.command_steps.specs.AnyStores.{IsGiven, IsKnown, code_of, source_faults, source_files, location_in, place_in, said_in}
@@ -100,7 +100,7 @@ module _ {L D K : Type 0} (files : L → Option (Map (List ℕ))) (place : L →
   store_rises (stores.Folder l) given rose = rose_count (count_at w.disk.folder_counts (place l)) (count_at w.disk.folder_counts (place l)) (count_at v.disk.folder_counts (place l)) (faults l) (omega arith) given rose
   store_rises (stores.Http r) given rose = elim (dialed_rose w.dial.faults v.dial.faults (state r.dial).faults r.refused given.faults rose) [
     | inl counted ↦ inl counted
-    | inr some ↦ inr (any_among (IsUnacceptable r.server) (state r.dial).ended (since w.dial.ended v.dial.ended) given.ended (given.cause some))
+    | inr some ↦ inr (any_among (IsUnacceptable r.server) (state r.dial).ended (since w.dial.ended v.dial.ended) given.ended (some_shown (IsUnacceptable r.server) r.refused (state r.dial).ended some given.cause))
   ]
 
 -- what was added after more had been consulted, and before

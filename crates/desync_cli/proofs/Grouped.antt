@@ -1,5 +1,5 @@
 -- Stores in groups: how many they are, which of them failed, and groups of one store each.
-use Rattle.std.proofs.Common.{◌≡◌, ◌++◌, ◌+◌, ◌≤◌, ℕ, zero, suc, IsTrue, List, [], ◌∷◌, Option, length, map, sum_by, take, refl, sym, subst, ap, ap₂, ◌∙◌, inl, inr, arith}
+use Rattle.std.proofs.Common.{◌≡◌, ◌++◌, ◌+◌, ◌≤◌, ℕ, zero, suc, IfSome, IsTrue, List, [], ◌∷◌, Option, length, map, sum_by, take, refl, sym, subst, ap, ap₂, ◌∙◌, inl, inr, arith}
 use Rattle.std.specs.List.{All}
 use Rattle.std.proofs.lemmas.Bool.{cases_lt}
 use Rattle.std.proofs.lemmas.List.{length-append, map-append}
@@ -9,7 +9,9 @@ use Rattle.chunk_store.specs.Said.{Said}
 use Rattle.command_groups.specs.Groups.{AreGroups, first_store, group_files, stores_of}
 use Rattle.command_groups.specs.Lacking.{FailsFirstIn, GroupFailsFirst, GroupRose, GroupsLack, HaveLackedIn, RoseBy}
 use Rattle.command_groups.specs.Numbers.{IsNumbered}
-use Rattle.command_steps.specs.Sources.{Storage, StoreRose, location_files, store_at}
+use Rattle.command_steps.proofs.Dialed.{some_shown}
+use Rattle.command_steps.specs.Dials.{since}
+use Rattle.command_steps.specs.Sources.{Storage, StoreRose, location_files, server_at, store_at}
 use Rattle.command_steps.specs.Stores.{are_folders}
 use Rattle.command_worlds.specs.Worlds.{FolderRose}
 use Rattle.command_words.specs.declared.command.Location.{Location}
@@ -17,6 +19,8 @@ use Rattle.command_words.specs.declared.command.Location.TheVariants as location
 use Rattle.command_words.specs.Limits.{AreFewStores}
 use Rattle.dsy_base.specs.Counts.{Rose, raised}
 use Rattle.dsy_base.specs.Maps.{Map}
+use Rattle.http_read.specs.Refusals.{IsUnacceptable}
+use Rattle.http_read.specs.Remotes.{AtLeast}
 use Rattle.store_chain.specs.Refusals.{Lacks}
 use Rattle.store_chain.specs.declared.query.Query.{Query}
 use Rattle.store_chain.specs.declared.refused.Refused.{Refused}
@@ -40,10 +44,16 @@ HaveStores groups = All (λ (g : List Location). 1 ≤ length g) groups
 rose_by : (a b n : ℕ) → raised a (n + 1) ≤ b → Rose a b
 rose_by a b n le = elim (cases_lt a b) [ inl more ↦ inl more | inr other ↦ inr (omega (arith, le, other)) ]
 
+-- of calls and replies that failed, together at least one, one did
+called_or_replied : (w v : Storage) (host : List ℕ) (port : ℕ) (prefix : List ℕ) (calls replies : ℕ) → 1 ≤ calls + replies → raised w.dial.faults calls ≤ v.dial.faults
+    → IfSome (since w.dial.ended v.dial.ended) (AtLeast replies (IsUnacceptable (server_at host port prefix))) → StoreRose w v (locations.Http host port prefix)
+called_or_replied w v host port prefix zero replies some rose bad =
+    inr (some_shown (IsUnacceptable (server_at host port prefix)) replies (since w.dial.ended v.dial.ended) (omega (arith, some)) bad)
+called_or_replied w v host port prefix (suc calls) replies some rose bad = inl (rose_by w.dial.faults v.dial.faults calls (omega (arith, rose)))
+
 pub store_rose : (n : ℕ) (w v : Storage) (s : Location) → RoseBy (n + 1) w v s → StoreRose w v s
 store_rose n w v (locations.Folder q) h = rose_by _ _ n h
-store_rose n w v (locations.Http host port prefix) (inl h) = inl (rose_by _ _ n h)
-store_rose n w v (locations.Http host port prefix) (inr bad) = inr bad
+store_rose n w v (locations.Http host port prefix) h = called_or_replied w v host port prefix h.0 h.1 (omega (arith, h.2)) h.3 h.4
 
 group_rose : (e : ℕ) (w v : Storage) (g rest : List Location) → 1 ≤ length g → GroupRose e w v g → StoreRose w v (store_at (g ++ rest) 0)
 group_rose e w v [] rest some h = absurd (omega (arith, some))

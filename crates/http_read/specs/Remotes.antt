@@ -1,5 +1,5 @@
 -- What contracts see of a store over HTTP, and how its calls change that.
-use Rattle.std.specs.Prelude.{◌≡◌, ℕ, ◌<◌, ◌⊎◌, List, [], ◌∷◌, ◌++◌, Option, Some, None, IfSome, Result, Err}
+use Rattle.std.specs.Prelude.{◌≡◌, ℕ, zero, suc, ◌⊎◌, List, [], ◌∷◌, ◌++◌, Option, Some, None, IfSome, Result, Err}
 use Rattle.std.specs.List.{Any}
 use Rattle.chunk_store.specs.Said.{Said}
 use Rattle.dsy_base.specs.Counts.{raised, Rose}
@@ -59,9 +59,15 @@ pub record Calls {A E : Type 0} (m : Method) (ask : List ℕ) (room : ℕ) (fail
   pub counts : KeepsCount old new ⊎ ((result ≡ Err failed) × CountsBad m ask room old new)
   pub cause : result ≡ Err failed → Rose old.faults new.faults ⊎ CountsBad m ask room old new
 
--- where a reply wasn't taken, a connection that has ended shows one
+-- P holds of n of them at the least
+abbrev pub AtLeast : {A : Type 0} → ℕ → (A → Type 0) → List A → Type 0
+AtLeast zero P xs = Unit {0}
+AtLeast (suc n) P [] = ⊥
+AtLeast (suc n) P (x ∷ xs) = (P x × AtLeast n P xs) ⊎ AtLeast (suc n) P xs
+
+-- for each reply that wasn't taken, a connection that has ended shows one
 abbrev pub HasCause : Server → ℕ → Option (List Traffic) → Type 0
-HasCause s refused ended = 0 < refused → IfSome ended (Any (IsUnacceptable s))
+HasCause s refused ended = IfSome ended (AtLeast refused (IsUnacceptable s))
 
 -- what a server has said on the connections that have ended. Where these aren't told nothing is known
 abbrev pub said_on : Server → Option (List Traffic) → Said

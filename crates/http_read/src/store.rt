@@ -3,7 +3,6 @@
 ghost use Rattle.std.specs.Prelude.{◌≡◌, ◌≤◌, length, string_bytes, take, false, true, Err, IfOk, IfSome, None, Ok};
 ghost use Rattle.std.specs.Prelude.{OnOk};
 ghost use Rattle.std.specs.Prelude.{Some};
-ghost use Rattle.std.specs.List.{Any};
 ghost use Rattle.dsy_base.specs.Counts.{raised, CountsFaults};
 ghost use Rattle.dsy_base.specs.Links.{with_ended, IsFreshLink};
 ghost use Rattle.http_read.specs.Asks.{asks_get, asks_head, asks_put, target};
@@ -126,8 +125,8 @@ impl<D: Dial> HttpStore<D> {
 
     // Counts a reply that wasn't taken, and keeps why it wasn't. Answers what the call does.
     fn refuse(&mut self, refused: Unanswered) -> IoFault
-        requires cause { OnBad refused (λ _. IfSome (D.state self.old.dial).ended (Any (IsUnacceptable
-            self.old.server))) }
+        requires cause { OnBad refused (λ _. HasCause self.old.server (raised self.old.refused 1)
+            (D.state self.old.dial).ended) }
         ensures value { result ≡ call_fault refused }
         ensures notes { NotesRefusal refused (log_of D.state self.old) (log_of D.state self.new) }
         ensures kept { self.new.dial ≡ self.old.dial }
