@@ -4,7 +4,8 @@ from that folder, and chunks that it fetches from nginx beside `desync cache -n 
 
 One client asks for chunks of 64 KiB of random bytes on one connection, one after the other, each once a run; it only
 receives them, and they are checked after the timed part. The cache is a new folder in each run where it is to be empty.
-Needs nginx, the size in memory, and under the temporary folder once, and three times more a run.
+A proxy takes room for the longest chunk, 64 MiB, at its first request: an image several times as long shows what a
+chunk takes. Needs nginx, the size in memory, and under the temporary folder once, and three times more a run.
 """
 
 import os
@@ -66,7 +67,7 @@ class Filled:
 
 
 def main():
-    options = side_by_side.arguments(__doc__, 128)
+    options = side_by_side.arguments(__doc__, 320)
     if servers.nginx_program() is None:
         sys.exit('nginx isn\'t installed')
     count = options.size * side_by_side.MIB // CHUNK
