@@ -6,6 +6,7 @@ use Rattle.command_groups.specs.Chains.{CanGiveChain, IsChainOpened, chain_group
 use Rattle.cache_command.specs.Filling.{JustOpened}
 use Rattle.cache_store.specs.Shelves.{Shelf}
 use Rattle.command_groups.proofs.Alike.{hold_alike}
+use Rattle.command_groups.proofs.Stand.{fresh_first}
 use Rattle.command_groups.proofs.Words.{group_words}
 use Rattle.command_groups.specs.Groups.{stores_of}
 use Rattle.command_groups.specs.Opened.{AreUnused, IsFresh, files_in, locations_in}
@@ -45,15 +46,16 @@ module _ {L D K : Type 0} (look : LookWords L) (state : D → DialState) where
       let found_first : IfSome d.folders (λ x. map (files_in look.files) first.stores ≡ map (map (location_files x)) names) =
       subst (λ l. IfSome d.folders (λ x. map (files_in look.files) l ≡ map (map (location_files x)) names)) (sym stores_are) found in
       let unused_first : All (AreUnused state) first.stores = subst (λ l. All (AreUnused state) l) (sym stores_are) unused in
-      let fresh_first : All (IsFresh (source_faults look.faults state) again) first.stores = subst (λ l. All (IsFresh (source_faults look.faults state) again) l) (sym stores_are) fresh in
+      let fresh_here : All (IsFresh (source_faults look.faults state) again) first.stores = subst (λ l. All (IsFresh (source_faults look.faults state) again) l) (sym stores_are) fresh in
       record {
         unused = All-cons (λ c. All (AreUnused state) c.stores) first more unused_first (λ n c lt. (opened_all n c lt).unused);
-        fresh = All-cons (λ c. All (IsFresh (source_faults look.faults state) again) c.stores) first more fresh_first (λ n c lt. (opened_all n c lt).fresh);
+        fresh = All-cons (λ c. All (IsFresh (source_faults look.faults state) again) c.stores) first more fresh_here (λ n c lt. (opened_all n c lt).fresh);
         given = All-cons (CanGiveChain look m) first more given_first given_more;
         located = λ n c lt. (opened_all n c lt).located ∙ sym located;
         alike = record {
           held = λ n c lt. let is = opened_all n c lt in
-              hold_alike look.files look.place tells look.tells told seen a.folders tells_are names (slice_index_or more n c).stores first.stores is.located located is.found found_here;
+              hold_alike look.files look.place look.never_fails tells look.tells told seen a.folders tells_are names (slice_index_or more n c).stores first.stores is.located located is.found found_here
+              (fresh_first (source_faults look.faults state) again (slice_index_or more n c).stores is.fresh) (fresh_first (source_faults look.faults state) again first.stores fresh_here);
         };
         found = All-cons (λ c. IfSome (with_cache (Some s) m).folders (λ y. map (files_in look.files) c.stores ≡ map (map (location_files y)) (chain_groups look c))) first more
             (found_at first d.folders (taken_read.folders ∙ further_read.folders ∙ opened_read.folders) found_first located)

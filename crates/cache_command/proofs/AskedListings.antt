@@ -1,5 +1,5 @@
 -- How the stores of all workers are asked while a cache is filled by indexes in order.
-use Rattle.std.proofs.Common.{◌≡◌, ℕ, suc, ◌+◌, ◌≤◌, List, [], ◌∷◌, All, ap, length, map, max, inl, inr, refl, sym, subst, ◌∙◌, arith}
+use Rattle.std.proofs.Common.{Bool, ◌≡◌, ℕ, suc, ◌+◌, ◌≤◌, List, [], ◌∷◌, All, ap, length, map, max, inl, inr, refl, sym, subst, ◌∙◌, arith}
 use Rattle.std.proofs.lemmas.List.{length-map}
 use Rattle.std.proofs.lemmas.List.Elements.{All-cons, All-head, All-nil, All-tail}
 use Rattle.std.specs.List.{AllZip}
@@ -198,8 +198,8 @@ module _ {S : Type 0} (store : StoreWords S) where
 
 -- ---- by fewer workers than there may be
 
-pub more_workers : (groups : List (List Location)) (again : ℕ) (cache : List ℕ) (few most : ℕ) (indexes : List (List ℕ)) (w v : Storage) (r : Result Unit Outcome) → max 1 few ≤ max 1 most → FilledBetween groups again cache few indexes w v r → FilledBetween groups again cache most indexes w v r
-more_workers groups again cache few most indexes w v r less h = record {
+pub more_workers : (sure : Bool) (groups : List (List Location)) (again : ℕ) (cache : List ℕ) (few most : ℕ) (indexes : List (List ℕ)) (w v : Storage) (r : Result Unit Outcome) → max 1 few ≤ max 1 most → FilledBetween sure groups again cache few indexes w v r → FilledBetween sure groups again cache most indexes w v r
+more_workers sure groups again cache few most indexes w v r less h = record {
   held = h.held;
   was = h.was;
   now = h.now;

@@ -17,19 +17,20 @@ use Rattle.command_groups.proofs.Folders.{put_twice, was_put}
 use Rattle.command_groups.proofs.Given.{group_given_earlier}
 use Rattle.command_groups.proofs.Lacked.{groups_lack}
 use Rattle.command_groups.proofs.Quiet.{groups_quiet}
-use Rattle.command_groups.proofs.Stand.{active_inside, found_after, fresh_counts, groups_tell}
+use Rattle.command_groups.proofs.Seen.{first_active, groups_tell}
+use Rattle.command_groups.proofs.Stand.{active_inside, found_after, fresh_counts, fresh_first}
 use Rattle.command_groups.proofs.Standing.{Standing, all_groups_stand}
 use Rattle.command_groups.proofs.Words.{group_words}
 use Rattle.command_groups.specs.Groups.{group_files, stores_of}
 use Rattle.command_groups.specs.Lacking.{HaveLackedIn}
-use Rattle.command_groups.specs.Numbers.{answer_of_stores}
+use Rattle.command_groups.specs.Numbers.{answer_of_stores, numbered_by}
 use Rattle.command_groups.specs.Opened.{IsFresh, IsGroupGiven, files_in, locations_in, told_files}
 use Rattle.command_outcome.specs.declared.outcome.Outcome.{Outcome}
 use Rattle.command_words.specs.declared.command.Location.{Location}
 use Rattle.command_steps.proofs.Cached.{given_adds}
 use Rattle.command_steps.proofs.Dialed.{dials_twice}
 use Rattle.command_steps.proofs.Numbers.{given_quiet, given_rose, rose_later, rose_longer}
-use Rattle.command_steps.specs.AnyStores.{said_in, source_faults}
+use Rattle.command_steps.specs.AnyStores.{chunks_in, said_in, source_faults}
 use Rattle.command_steps.specs.Cache.{CacheGiven, CacheOpened, with_cache}
 use Rattle.command_indexes.proofs.Spelled.{IsPart, not_spelled_wider, spells_wider}
 use Rattle.command_indexes.specs.Places.{are_files}
@@ -40,7 +41,7 @@ use Rattle.command_worlds.specs.Steps.{outcome_of}
 use Rattle.command_worlds.specs.Worlds.{Adds, DiskQuiet, FolderRose, Reads, world}
 use Rattle.command_steps.specs.declared.any_store.AnyStore.{AnyStore}
 use Rattle.command_steps.proofs.Lacked.{same_length}
-use Rattle.cache_command.proofs.Renumbered.{IsAnswerAs, IsFaultAs, IsOutcomeAs, IsSame, IsTold, fault_as, filled_as, fills_as, memory_as, same_answer, spelled_as, told_answer, told_lack, told_maps}
+use Rattle.cache_command.proofs.Renumbered.{IsAnswerAs, IsFaultAs, IsOutcomeAs, IsSame, IsTold, fault_as, filled_as, fills_as, lacks_as, memory_as, refused_same, same_answer, spelled_as, told_answer, told_lack, told_numbers}
 use Rattle.cache_command.specs.Caching.{HoldsFirst, AddsListed, AllFilled, CacheEnds, EndsFilling, Evidence, FillExactly, FillTells, FilledBetween, FillsEach, IndexFilled, IsHeldListed, IsNotHad, NotFilled, StopsFilling, answer_of_fill, of_calls, of_command, outcome_of_fill, GetsListed}
 use Rattle.dsy_base.specs.Counts.{Quiet, Rose}
 use Rattle.dsy_base.specs.Disk.{Disk, Output}
@@ -50,11 +51,10 @@ use Rattle.dsy_base.specs.declared.look.Look.{Ghosts as LookWords}
 use Rattle.image_store.specs.PutChunks.{IsListedId as IsAmong}
 use Rattle.store_chain.specs.Chains.{Chained, KeepsStores}
 use Rattle.store_chain.specs.Faults.{EachQuiet, NoneFalls}
-use Rattle.store_chain.specs.Giving.{LacksAll}
 use Rattle.store_chain.specs.declared.refused.Refused.{Refused}
 use Rattle.store_chain.specs.declared.refused.Refused.TheVariants as refused
 use Rattle.store_chain.specs.declared.query.Query.{Query}
-use Rattle.store_group.specs.Groups.{Grouped, said_of}
+use Rattle.store_group.specs.Groups.{Grouped, group_told}
 use Rattle.cache_fill.proofs.Holding.{each_within, quiet_within}
 use Rattle.cache_command.specs.Filling.{AsksListings, each_stores}
 use Rattle.cache_fill.specs.Filling.{AreQuiet, EntryFails, FillEnds, FillStops, FillsBy, GivesEntry, HoldsTo, FillUnfailed, LosesAhead, LosesEntry, RefusesAhead, RefusesEntry, MayFillCache, StopsAhead, entry_want, fill_fault_of, filled_to}
@@ -145,7 +145,7 @@ module _ {S : Type 0} (store : StoreWords S) (lies : (s : S) → IfSome (store.f
       cache = if_told (option_map chunks s1.files) (λ m. GivesEntry l h.entry m → Rose s0.faults s1.faults)
           (λ m is gives. rose_later s0.faults h.shelf.faults s1.faults h.before.stocks.never_falls (of_told (held_on h.shelf) (λ m. GivesEntry l h.entry m → Rose h.shelf.faults s1.faults) m (ap (option_map chunks) (sym e.kept) ∙ is) e.unfound gives));
       said = subst (λ (n : ℕ). Told (entry_want l h.entry id) r (slice_index_or (each_stores (c1 ∷ f1)) n [])) (sym first) (h.chain.stores, same_length store.place h.chain.stores c1.stores (h.before.stores.places ∙ sym kept.places), e.refused);
-      lacks = λ fs told. e.lacks (map chunks fs) (h.before.stores.held ∙ maps_of fs told);
+      lacks = λ fs told. (r, refused_same r, e.lacks (map chunks fs) (h.before.stores.held ∙ maps_of fs told));
     }
 
     tells : (f : FillFault) → EntryFails store l h.entry h.shelf s1 h.chain c1 f → FillTells Calls l s1.files h.entry f
@@ -180,7 +180,7 @@ module _ {S : Type 0} (store : StoreWords S) (lies : (s : S) → IfSome (store.f
       cache = if_told (option_map chunks s1.files) (λ m. GivesEntry l h.entry m → Rose s0.faults s1.faults)
           (λ m is gives. rose_later s0.faults h.shelf.faults s1.faults h.before.stocks.never_falls (of_told (held_on h.shelf) (λ m. GivesEntry l h.entry m → Rose h.shelf.faults s1.faults) m (ap (option_map chunks) (sym h.kept) ∙ is) h.unfound gives));
       said = subst (Told (entry_want l h.entry id) r) (sym told_is) (e.chain.stores, length_all_zip (λ a b. AskedOnce (store.asked a) (store.asked b) (id_of l h.entry)) e.chain.stores (slice_index_or f1 h.further c0).stores e.asked.stores, e.refused);
-      lacks = λ fs told. e.lacks (map chunks fs) (alike h.further c0 (omega (arith, many, h.inside)) ∙ maps_of fs told);
+      lacks = λ fs told. (r, refused_same r, e.lacks (map chunks fs) (alike h.further c0 (omega (arith, many, h.inside)) ∙ maps_of fs told));
     }
 
     tells_ahead : (id : ChunkId) (r : Refused) → RefusesAhead store l h.entry id r (slice_index_or f0 h.further c0) (slice_index_or f1 h.further c0) → FillTells Calls l s1.files h.entry (fill_fault_of h.entry id r)
@@ -233,13 +233,13 @@ module _ (a b : Evidence) (held : (fs : List (Map (List ℕ))) → b.holds fs �
 
   -- what the one refuses for a reason, the other refuses for another one, which names a store by another number
   module _ (N : Refused → Refused → Type 0) (refuse : (c : Query) (r n : Refused) → N r n → a.refused c r → b.refused c n) (none : N refused.Missing refused.Missing)
-      (lack : (fs : List (Map (List ℕ))) → b.holds fs → (c : Query) (r n : Refused) → N r n → LacksAll c (map chunks fs) r → LacksAll c (map chunks fs) n) (cache : a.cache_failed → b.cache_failed) where
+      (numbers : (fs : List (Map (List ℕ))) → b.holds fs → (r n by_group : Refused) → N r n → r ≡ numbered_by a.number by_group → n ≡ numbered_by b.number by_group) (cache : a.cache_failed → b.cache_failed) where
     lost_wider : (l : Listing) (y : Option (Map (List ℕ))) (k : ℕ) (id : ChunkId) (r n : Refused) → N r n → IsNotHad a l y k id r → IsNotHad b l y k id n
     lost_wider l y k id r n is h = record {
       id_is = h.id_is;
       cache = if_told (option_map chunks y) (λ m. GivesEntry l k m → b.cache_failed) (λ m held_is gives. cache (of_told (option_map chunks y) (λ m. GivesEntry l k m → a.cache_failed) m held_is h.cache gives));
       said = refuse _ r n is h.said;
-      lacks = λ fs told. lack fs told (entry_want l k id) r n is (h.lacks fs (held fs told));
+      lacks = λ fs told. lacks_as N a.number b.number (numbers fs told) (entry_want l k id) (map chunks fs) r n is (h.lacks fs (held fs told));
     }
 
     tells_wider : (l : Listing) (y : Option (Map (List ℕ))) (k : ℕ) (f g : FillFault) → IsFaultAs N f g → FillTells a l y k f → FillTells b l y k g
@@ -336,7 +336,7 @@ module _ {S : Type 0} (store : StoreWords S) (m0 m1 m2 : ℕ) (b0 b1 b2 : List (
   fills_on q indexes l x z y r listed filled rest =
       fills_next all w v q indexes l x z y r listed
       (done_wider first all (λ fs told. told) (λ fs told quiet. still_first quiet) l x z filled)
-      (fills_wider next all (λ fs told. same ∙ told) (λ fs told quiet. still_next quiet) IsSame (λ c x n is h. subst (next.refused c) (sym is) h) refl (λ fs told c x n is h. subst (LacksAll c (map chunks fs)) (sym is) h) (rose_later m0 m1 m2 below) u v w v part indexes z y r r (same_answer r) rest)
+      (fills_wider next all (λ fs told. same ∙ told) (λ fs told quiet. still_next quiet) IsSame (λ c x n is h. subst (next.refused c) (sym is) h) refl (λ fs told x n by_group is same. is ∙ same) (rose_later m0 m1 m2 below) u v w v part indexes z y r r (same_answer r) rest)
 
 -- how filling by an index was answered
 pub fill_stopped : (over : Evidence) (l : Listing) (x y : Option (Map (List ℕ))) (r : Result Unit FillFault) (o : Outcome) → answer_of_fill r ≡ Err o → IndexFilled over l x y r
@@ -350,24 +350,24 @@ fill_passed over l x y (Err fault) u is filled = absurd (cc)
 
 -- ---- the command
 
-pub cache_ends : (groups : List (List Location)) (again : ℕ) (cache : List ℕ) (most : ℕ) (indexes : List (List ℕ)) (k j : DialState) (p : Output) (b c d e : Disk) (r : Result Unit Outcome)
-    → SourcesOpened (stores_of groups) b (Ok tt) c → CacheOpened (stores_of groups) (Some cache) c (Ok tt) d → FilledBetween groups again cache most indexes (storage d k) (storage e j) r → CacheEnds groups again cache most indexes (world b k p) r (world e j p)
-cache_ends groups again cache most indexes k j p b c d e (Ok u) opened taken filled =
+pub cache_ends : (sure : Bool) (groups : List (List Location)) (again : ℕ) (cache : List ℕ) (most : ℕ) (indexes : List (List ℕ)) (k j : DialState) (p : Output) (b c d e : Disk) (r : Result Unit Outcome)
+    → SourcesOpened (stores_of groups) b (Ok tt) c → CacheOpened (stores_of groups) (Some cache) c (Ok tt) d → FilledBetween sure groups again cache most indexes (storage d k) (storage e j) r → CacheEnds sure groups again cache most indexes (world b k p) r (world e j p)
+cache_ends sure groups again cache most indexes k j p b c d e (Ok u) opened taken filled =
     record { disk = c; dial = k; out = p; gave = tt; did = (opened, refl, refl); then = record { disk = d; dial = k; out = p; gave = tt; did = (taken, refl, refl); then = (filled, refl) } }
-cache_ends groups again cache most indexes k j p b c d e (Err o) opened taken filled =
+cache_ends sure groups again cache most indexes k j p b c d e (Err o) opened taken filled =
     inr (record { disk = c; dial = k; out = p; gave = tt; did = (opened, refl, refl); then = inr (record { disk = d; dial = k; out = p; gave = tt; did = (taken, refl, refl); then = (filled, refl) }) })
 
 -- the stores weren't opened, or then the folder of the cache wasn't reached
-pub not_reached : (groups : List (List Location)) (again : ℕ) (cache : List ℕ) (most : ℕ) (indexes : List (List ℕ)) (k : DialState) (p : Output) (b e : Disk) (o : Outcome)
-    → SourcesOpened (stores_of groups) b (Err o) e ⊎ ((m : Disk) × SourcesOpened (stores_of groups) b (Ok tt) m × CacheOpened (stores_of groups) (Some cache) m (Err o) e) → CacheEnds groups again cache most indexes (world b k p) (Err o) (world e k p)
-not_reached groups again cache most indexes k p b e o (inl none) = inl (none, refl, refl)
-not_reached groups again cache most indexes k p b e o (inr (m, opened, none)) = inr (record { disk = m; dial = k; out = p; gave = tt; did = (opened, refl, refl); then = inl (none, refl, refl) })
+pub not_reached : (sure : Bool) (groups : List (List Location)) (again : ℕ) (cache : List ℕ) (most : ℕ) (indexes : List (List ℕ)) (k : DialState) (p : Output) (b e : Disk) (o : Outcome)
+    → SourcesOpened (stores_of groups) b (Err o) e ⊎ ((m : Disk) × SourcesOpened (stores_of groups) b (Ok tt) m × CacheOpened (stores_of groups) (Some cache) m (Err o) e) → CacheEnds sure groups again cache most indexes (world b k p) (Err o) (world e k p)
+not_reached sure groups again cache most indexes k p b e o (inl none) = inl (none, refl, refl)
+not_reached sure groups again cache most indexes k p b e o (inr (m, opened, none)) = inr (record { disk = m; dial = k; out = p; gave = tt; did = (opened, refl, refl); then = inl (none, refl, refl) })
 
 -- ---- when all is given back
 
-held_so : (o : Option (Map (Map (List ℕ)))) (names : List (List Location)) (xs : List (Option (Map (List ℕ)))) (fs : List (Map (List ℕ))) → IfSome o (λ n. xs ≡ map (group_files n) names) → IsSomeAnd o (λ n. map (group_files n) names ≡ map Some fs) → xs ≡ map Some fs
-held_so None names xs fs found told = absurd told
-held_so (Some n) names xs fs found told = found ∙ told
+held_so : (sure : Bool) (o : Option (Map (Map (List ℕ)))) (names : List (List Location)) (xs : List (Option (Map (List ℕ)))) (fs : List (Map (List ℕ))) → IfSome o (λ n. xs ≡ map (group_files sure n) names) → IsSomeAnd o (λ n. map (group_files sure n) names ≡ map Some fs) → xs ≡ map Some fs
+held_so sure None names xs fs found told = absurd told
+held_so sure (Some n) names xs fs found told = found ∙ told
 
 -- the disk was read while the cache was filled, which was s and became t; then its folder was given back, and the groups
 -- of stores
@@ -427,38 +427,44 @@ module _ (cache : List ℕ) (s t : Shelf) (d0 b c e : Disk) (i k j : DialState) 
       pub located : map (locations_in look.place) after ≡ names
       pub tries : All (λ g. g.retries ≡ again) after
       pub same : map (files_in look.files) after ≡ map (files_in look.files) before
-      pub told_same : map (told_files look.files) after ≡ map (told_files look.files) before
+      pub told_same : map (told_files look.never_fails look.files) after ≡ map (told_files look.never_fails look.files) before
       pub found : IfSome (with_cache (Some s) d0).folders (λ m. map (files_in look.files) before ≡ map (map (location_files m)) names)
       pub gained : All (IsGroupGiven look.place look.faults state (storage c k) (storage e j)) after
 
     module _ (before after : List (Grouped (AnyStore L D K))) (is : IsBack before after) where
       -- as many groups as before
       many : length before ≡ length names
-      many = sym (length-map before (told_files look.files)) ∙ ap length (sym is.told_same) ∙ length-map after (told_files look.files) ∙ sym (length-map after (locations_in look.place)) ∙ ap length is.located
+      many = sym (length-map before (told_files look.never_fails look.files)) ∙ ap length (sym is.told_same) ∙ length-map after (told_files look.never_fails look.files) ∙ sym (length-map after (locations_in look.place)) ∙ ap length is.located
 
       given_all : All (IsGroupGiven look.place look.faults state w v) after
       given_all = λ n g lt. group_given_earlier look.place look.faults state w (storage c k) v opened part.during closes.0.dial (slice_index_or after n g) (is.gained n g lt)
 
-      stand : All (Standing look.files look.place look.faults state again w v) after
-      stand = all_groups_stand look.files look.place look.faults state again w v after names is.located (found_after look.files d.folders before after names is.same is.found) is.tries given_all
+      stand : All (Standing look.never_fails look.files look.place look.faults state again w v) after
+      stand = all_groups_stand look.never_fails look.files look.place look.faults state again w v after names is.located (found_after look.files d.folders before after names is.same is.found) is.tries given_all
 
-      held : (fs : List (Map (List ℕ))) → (of_command again w v names cache).holds fs → map (told_files look.files) before ≡ map Some fs
-      held fs told = held_so d.folders names (map (told_files look.files) before) fs (groups_tell look.files d.folders before names is.found) told
+      held : (fs : List (Map (List ℕ))) → (of_command look.never_fails again w v names cache).holds fs → map (told_files look.never_fails look.files) before ≡ map Some fs
+      held fs told =
+          let first = fresh_first (source_faults look.faults state) again before is.fresh in
+          held_so look.never_fails d.folders names (map (told_files look.never_fails look.files) before) fs (groups_tell look.never_fails look.files d.folders before names first is.found) told
 
-      quiet : (fs : List (Map (List ℕ))) → (of_command again w v names cache).holds fs → DiskQuiet d e → EachQuiet (map (λ g. g.failed) before) (map (λ g. g.failed) after)
+      quiet : (fs : List (Map (List ℕ))) → (of_command look.never_fails again w v names cache).holds fs → DiskQuiet d e → EachQuiet (map (λ g. g.failed) before) (map (λ g. g.failed) after)
       quiet fs told still =
-          groups_quiet look.files look.place look.faults state w v names fs before after (fresh_counts (source_faults look.faults state) again before names many is.fresh) (is.told_same ∙ held fs told) given_all still.folders
+          groups_quiet look.never_fails look.files look.place look.faults state w v names fs before after (fresh_counts (source_faults look.faults state) again before names many is.fresh) (is.told_same ∙ held fs told) given_all still.folders
 
       inside : (n : ℕ) → n < length names → slice_index (map (λ (g : Grouped (AnyStore L D K)). g.active) after) n < length (slice_index_or names n [])
       inside = active_inside look.place after names is.located (λ n g lt. (given_all n g lt).active)
+
+      -- where they tell, the first store of each is asked first
+      first_asked : (fs : List (Map (List ℕ))) → (of_command look.never_fails again w v names cache).holds fs → (n : ℕ) → slice_index (map (λ (g : Grouped (AnyStore L D K)). g.active) after) n ≡ 0
+      first_asked fs told = first_active look.never_fails look.files after fs (is.told_same ∙ held fs told) (λ n g lt. (given_all n g lt).active)
 
       refuse : (q : Query) (r n : Refused) → IsTold names (map (λ g. g.active) after) r n
           → (asked : List (Grouped (AnyStore L D K))) × (length asked ≡ length after) × Refuses Words.said Words.faults Words.may_lack_memory q asked after r → HaveLackedIn again q w v names n
       refuse q r n told h =
           told_lack names (map (λ g. g.active) after) inside again w v q r n told
-          (groups_lack (locations_in look.place) (λ g. said_of (said_in look.files state) g.stores) (λ g. g.failed) again w v names true q r h.0 after h.1 is.located stand h.2)
+          (groups_lack (locations_in look.place) (group_told false look.never_fails (chunks_in look.files) (said_in look.files state)) (λ g. g.failed) again w v names true q r h.0 after h.1 is.located stand h.2)
 
-    all_quiet : (fs : List (Map (List ℕ))) → (of_command again w v names cache).holds fs → DiskQuiet d e → (befores afters : List (List (Grouped (AnyStore L D K)))) → AllZip IsBack befores afters → AllZip (λ x y. EachQuiet (map (λ g. g.failed) x) (map (λ g. g.failed) y)) befores afters
+    all_quiet : (fs : List (Map (List ℕ))) → (of_command look.never_fails again w v names cache).holds fs → DiskQuiet d e → (befores afters : List (List (Grouped (AnyStore L D K)))) → AllZip IsBack befores afters → AllZip (λ x y. EachQuiet (map (λ g. g.failed) x) (map (λ g. g.failed) y)) befores afters
     all_quiet fs told still [] [] backs = tt
     all_quiet fs told still [] (y ∷ afters) backs = backs
     all_quiet fs told still (x ∷ befores) [] backs = backs
@@ -467,7 +473,7 @@ module _ (cache : List ℕ) (s t : Shelf) (d0 b c e : Disk) (i k j : DialState) 
     -- the groups of all workers, of which the first are `before`, and that whose stores refused a chunk
     pub filled_between : (before : List (Grouped (AnyStore L D K))) (befores afters : List (List (Grouped (AnyStore L D K)))) → AllZip IsBack (before ∷ befores) afters → (worker : ℕ) → worker < length afters → (most : ℕ) (indexes : List (List ℕ)) (r : Result Unit Outcome)
         → FillsEach (of_calls (group_words look state) (before ∷ befores) afters worker 0 t.faults) (storage d0 i) (storage b k) indexes s.files t.files r
-        → (IsTrue (are_files indexes) → k ≡ i) → GetsListed w v again most indexes names → FilledBetween names again cache most indexes w v (answer_of_stores names (map (λ (g : Grouped (AnyStore L D K)). g.active) (slice_index_or afters worker [])) r)
+        → (IsTrue (are_files indexes) → k ≡ i) → GetsListed w v again most indexes names → FilledBetween look.never_fails names again cache most indexes w v (answer_of_stores names (map (λ (g : Grouped (AnyStore L D K)). g.active) (slice_index_or afters worker [])) r)
     filled_between before befores [] backs worker less most indexes r h undialed gets = absurd backs
     filled_between before befores (after ∷ afters) backs worker less most indexes r h undialed gets =
         let their : List (Grouped (AnyStore L D K)) = slice_index_or (after ∷ afters) worker [] in
@@ -479,9 +485,9 @@ module _ (cache : List ℕ) (s t : Shelf) (d0 b c e : Disk) (i k j : DialState) 
           held = s.files;
           was = subst (λ (q : List ℕ). IfSome d.folders (λ m. m q ≡ s.files)) s_is (was_put d0.folders s.place s.files);
           now = t.files;
-          filled = fills_wider (of_calls (group_words look state) (before ∷ befores) (after ∷ afters) worker 0 t.faults) (of_command again w v names cache) (held before after backs.0)
+          filled = fills_wider (of_calls (group_words look state) (before ∷ befores) (after ∷ afters) worker 0 t.faults) (of_command look.never_fails again w v names cache) (held before after backs.0)
               (λ fs told still. (cache_quiet still, all_quiet fs told still (before ∷ befores) (after ∷ afters) backs))
-              (IsTold names active) (refuse was their is) refl (λ fs told q r n is_told lacks. told_maps names active (inside was their is) d.folders fs told q r n is_told lacks) cache_failed
+              (IsTold names active) (refuse was their is) refl (λ fs told. told_numbers names active (first_asked was their is fs told)) cache_failed
               (storage d0 i) (storage b k) w v part indexes s.files t.files r (answer_of_stores names active r) (told_answer names active r) h;
           back = back;
           adds = all_adds;

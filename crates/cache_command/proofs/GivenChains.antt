@@ -76,7 +76,7 @@ module _ {L D K : Type 0} (look : LookWords L) (state : D → DialState) where
 
   -- its folders hold what they held
   pub chain_files : (ls : List Listing) (c d : Chained (Grouped (AnyStore L D K))) → AsksListings Words ls c d → map (files_in look.files) d.stores ≡ map (files_in look.files) c.stores
-  chain_files ls c d h = folders_still look.place look.files state (IsGetAmong ls) c.stores d.stores (chain_stands ls c d h) h.keeps.files h.keeps.sends
+  chain_files ls c d h = folders_still look.place look.never_fails look.files state (IsGetAmong ls) c.stores d.stores (chain_stands ls c d h) h.keeps.files h.keeps.sends
 
   abbrev Few : (List ℕ → ℕ) → Chained (Grouped (AnyStore L D K)) → Chained (Grouped (AnyStore L D K)) → Type 0
   Few times c d = AllZip (λ a b. (q : List ℕ) → Words.asked b q ≤ Words.asked a q + times q) c.stores d.stores

@@ -1,16 +1,14 @@
 -- Answers that name a store by another number. N says which refusals are told as which.
-use Rattle.std.proofs.Common.{◌≡◌, ◌∙◌, ◌+◌, ◌<◌, ℕ, zero, suc, List, [], ◌∷◌, length, map, slice_index, slice_index_or, Option, Some, None, IsSomeAnd, Result, Ok, Err, refl, sym, ap, subst, arith}
-use Rattle.std.proofs.lemmas.List.{length-map}
+use Rattle.std.proofs.Common.{◌≡◌, ◌∙◌, ◌+◌, ◌<◌, ℕ, List, [], length, slice_index, slice_index_or, Result, Ok, Err, refl, sym, ap, subst, arith}
 use Rattle.cache_command.specs.Caching.{outcome_of_fill}
 use Rattle.cache_fill.specs.Filling.{FillsBy, filled_to}
 use Rattle.cache_fill.specs.declared.fill.FillFault.{FillFault}
 use Rattle.cache_fill.specs.declared.fill.FillFault.TheVariants as faults
 use Rattle.caibx_codec.specs.Listing.{Listing}
-use Rattle.chunk_store.specs.Folders.{chunks}
-use Rattle.command_groups.proofs.Lacked.{damaged_numbered, fault_numbered, lacks_numbered, missing_numbered}
-use Rattle.command_groups.specs.Groups.{first_store, group_files}
-use Rattle.command_groups.specs.Lacking.{GroupsLack, HaveLackedIn}
-use Rattle.command_groups.specs.Numbers.{IsNumbered, answer_of_stores, outcome_of_stores}
+use Rattle.command_groups.proofs.Lacked.{damaged_numbered, fault_numbered, missing_numbered}
+use Rattle.command_groups.specs.Groups.{first_store}
+use Rattle.command_groups.specs.Lacking.{GroupsLack, HaveLackedIn, LacksIn}
+use Rattle.command_groups.specs.Numbers.{answer_of_stores, numbered_by, outcome_of_stores, refused_of_stores}
 use Rattle.command_indexes.specs.Spelled.{NotSpelled, NotSpelledAt}
 use Rattle.command_outcome.specs.declared.outcome.Outcome.{Outcome}
 use Rattle.command_outcome.specs.declared.outcome.Outcome.TheVariants as ends
@@ -21,11 +19,18 @@ use Rattle.command_words.specs.declared.location.IndexPlace.{IndexPlace}
 use Rattle.command_words.specs.declared.location.IndexPlace.TheVariants as places
 use Rattle.command_words.specs.declared.location.NoLocation.{NoLocation}
 use Rattle.dsy_base.specs.Maps.{Map}
-use Rattle.store_chain.specs.Giving.{Gives, HoldsElse, HoldsNone, LacksAll}
-use Rattle.store_chain.specs.Lists.{FirstAt}
 use Rattle.store_chain.specs.declared.query.Query.{Query}
 use Rattle.store_chain.specs.declared.refused.Refused.{Refused}
 use Rattle.store_chain.specs.declared.refused.Refused.TheVariants as refused
+
+-- ---- numbers of stores by those of groups
+
+-- where the numbers are those of groups
+pub refused_same : (r : Refused) → r ≡ numbered_by (λ k. k) r
+refused_same refused.Missing = refl
+refused_same (refused.Damaged k x) = refl
+refused_same (refused.StoreFault k) = refl
+refused_same refused.Memory = refl
 
 module _ (N : Refused → Refused → Type 0) where
   -- the fault is told so
@@ -56,6 +61,11 @@ module _ (N : Refused → Refused → Type 0) where
   filled_as l (faults.StoreFault s) g (t, n, named) = ap (λ (h : FillFault). filled_to l (Err h)) (sym named)
   filled_as l faults.CacheFault g named = ap (λ (h : FillFault). filled_to l (Err h)) (sym named)
   filled_as l faults.Memory g named = ap (λ (h : FillFault). filled_to l (Err h)) (sym named)
+
+  -- the numbers of stores go on as N says
+  module _ (old new : ℕ → ℕ) (numbers : (r n by_group : Refused) → N r n → r ≡ numbered_by old by_group → n ≡ numbered_by new by_group) where
+    pub lacks_as : (c : Query) (maps : List (Map (List ℕ))) (r n : Refused) → N r n → LacksIn old c maps r → LacksIn new c maps n
+    lacks_as c maps r n is h = (h.0, numbers r n h.0 is h.1, h.2)
 
   pub fills_as : (l : Listing) (m : Map (List ℕ)) (maps : List (Map (List ℕ))) (f g : FillFault) → IsFaultAs f g → FillsBy l m maps (Err f) → FillsBy l m maps (Err g)
   fills_as l m maps (faults.Missing k id) g named h = subst (λ (e : FillFault). FillsBy l m maps (Err e)) (sym named) h
@@ -107,17 +117,6 @@ same_answer (Err o) = (o, refl, same_outcome o)
 
 -- ---- by the numbers of the groups' stores
 
--- the number of a store in the place of that of its group
-abbrev pub refused_of_stores : List (List Location) → List ℕ → Refused → Refused
-refused_of_stores groups active (refused.StoreFault k) = refused.StoreFault (first_store groups k)
-refused_of_stores groups active (refused.Damaged k x) = refused.Damaged (first_store groups k + slice_index active k) x
-refused_of_stores groups active other = other
-
-first_inside : {X : Type 0} (B A C : X → Type 0) (k : ℕ) (xs : List X) → FirstAt B A C k xs → k < length xs
-first_inside B A C k [] h = absurd h
-first_inside B A C zero (x ∷ xs) h = omega arith
-first_inside B A C (suc k) (x ∷ xs) h = let rest = first_inside B A C k xs h.1 in omega (arith, rest)
-
 module _ (groups : List (List Location)) (active : List ℕ) where
   abbrev pub IsTold : Refused → Refused → Type 0
   IsTold r n = n ≡ refused_of_stores groups active r
@@ -138,18 +137,12 @@ module _ (groups : List (List Location)) (active : List ℕ) where
     told_lack again w v c (refused.StoreFault k) n is h = subst (HaveLackedIn again c w v groups) (sym is) (fault_numbered again c w v groups k h)
     told_lack again w v c refused.Memory n is h = subst (HaveLackedIn again c w v groups) (sym is) (refused.Memory, refl, tt)
 
-    -- where all groups are of one store, the numbers are the same
-    numbered_as : (c : Query) (maps : List (Map (List ℕ))) → length maps ≡ length groups → (r n : Refused) → IsTold r n → LacksAll c maps r → IsNumbered groups r n
-    numbered_as c maps many refused.Missing n is h = is
-    numbered_as c maps many (refused.Damaged k x) n is h =
-        let below : k < length maps = first_inside (HoldsNone c) (HoldsElse c x) (λ m. Gives c m → ⊥) k maps h in
-        let at = inside k (omega (arith, below, many)) in
-        (first_store groups k + slice_index active k, is, (omega arith, omega (arith, at)))
-    numbered_as c maps many (refused.StoreFault k) n is h = is
-    numbered_as c maps many refused.Memory n is h = is
-
-    pub told_maps : (o : Option (Map (Map (List ℕ)))) (fs : List (Map (List ℕ))) → IsSomeAnd o (λ m. map (group_files m) groups ≡ map Some fs) → (c : Query) (r n : Refused) → IsTold r n → LacksAll c (map chunks fs) r → LacksAll c (map chunks fs) n
-    told_maps None fs told c r n is h = absurd told
-    told_maps (Some m) fs told c r n is h =
-        let many : length (map chunks fs) ≡ length groups = length-map fs chunks ∙ sym (length-map fs Some) ∙ sym (ap length told) ∙ length-map groups (group_files m) in
-        lacks_numbered m groups fs told c (map chunks fs) many r n (numbered_as c (map chunks fs) many r n is h) h
+  -- where the first store of each group is asked first, its number is told
+  pub told_numbers : ((k : ℕ) → slice_index active k ≡ 0) → (r n by_group : Refused) → IsTold r n → r ≡ numbered_by (λ k. k) by_group → n ≡ numbered_by (first_store groups) by_group
+  told_numbers first r n refused.Missing is same = is ∙ ap (refused_of_stores groups active) same
+  told_numbers first r n (refused.Damaged k x) is same =
+      let at = first k in
+      let number : first_store groups k + slice_index active k ≡ first_store groups k = omega (arith, at) in
+      is ∙ ap (refused_of_stores groups active) same ∙ ap (λ (t : ℕ). refused.Damaged t x) number
+  told_numbers first r n (refused.StoreFault k) is same = is ∙ ap (refused_of_stores groups active) same
+  told_numbers first r n refused.Memory is same = is ∙ ap (refused_of_stores groups active) same

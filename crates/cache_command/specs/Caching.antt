@@ -1,6 +1,7 @@
 -- `cache -s STORE.. -e RETRIES -c CACHE INDEX..`, over groups of stores. A name is its bytes; files are a folder's,
 -- where they are told.
-use Rattle.std.specs.Prelude.{◌≡◌, ◌⊎◌, ◌&&◌, ℕ, ◌+◌, ◌<◌, ◌≤◌, List, [], ◌∷◌, length, map, max}
+use Rattle.std.specs.Prelude.{◌≡◌, ◌⊎◌, ◌&&◌, ℕ, ◌+◌, ◌<◌, ◌≤◌, List, [], ◌∷◌, length, map}
+use Rattle.std.specs.Prelude.{Bool, max}
 use Rattle.std.specs.Prelude.{Option, Some, IfSome, IfErr, IsSomeAnd, IsTrue, is_some, Result, Ok, Err, slice_index_or}
 use Rattle.std.specs.List.{AllZip, Any}
 use Rattle.std.specs.Option.{option_map}
@@ -13,8 +14,8 @@ use Rattle.chunk_store.specs.Giving.{IsChunk}
 use Rattle.chunk_store.specs.declared.id.ChunkId.{ChunkId}
 use Rattle.chunk_store.specs.declared.store.Store.{Ghosts as StoreWords}
 use Rattle.command_groups.specs.Asking.{WorkersGroupsDialed, with_retries}
-use Rattle.command_groups.specs.Groups.{group_files, stores_of}
-use Rattle.command_groups.specs.Lacking.{HaveLackedIn}
+use Rattle.command_groups.specs.Groups.{first_store, group_files, stores_of}
+use Rattle.command_groups.specs.Lacking.{HaveLackedIn, LacksIn}
 use Rattle.command_outcome.specs.declared.outcome.Outcome.{Outcome}
 use Rattle.command_outcome.specs.declared.outcome.Outcome.TheVariants as ends
 use Rattle.command_indexes.specs.Places.{are_files}
@@ -34,7 +35,6 @@ use Rattle.dsy_base.specs.Maps.{Map, at_name}
 use Rattle.image_store.specs.PutChunks.{HoldsNamed, IsListedId as IsAmong}
 use Rattle.image_chop.specs.Chopping.{times_listed}
 use Rattle.store_chain.specs.Faults.{EachQuiet}
-use Rattle.store_chain.specs.Giving.{LacksAll}
 use Rattle.store_chain.specs.Refusals.{Refuses}
 use Rattle.store_chain.specs.declared.refused.Refused.{Refused}
 use Rattle.store_chain.specs.declared.refused.Refused.TheVariants as refused
@@ -47,18 +47,22 @@ use Rattle.cache_fill.specs.declared.fill.FillFault.TheVariants as faults
 -- ---- what is known of the stores and of the cache
 
 pub record Evidence : Type 1 where
-  -- all stores are folders, which hold these files
+  -- all groups of stores tell, and hold these files
   pub holds : List (Map (List ℕ)) → Type 0
+  -- the number of a store by that of its group
+  pub number : ℕ → ℕ
   -- the stores have refused what is wanted, for this reason
   pub refused : Query → Refused → Type 0
   -- calls on the cache have failed; no call has
   pub cache_failed : Type 0
   pub unfailed : Type 0
 
--- over a command, from w to v, whose groups of stores and cache these are. Each call that fails is made e times more
-abbrev pub of_command : ℕ → Storage → Storage → List (List Location) → List ℕ → Evidence
-of_command e w v groups cache = record {
-  holds = λ fs. IsSomeAnd w.disk.folders (λ n. map (group_files n) groups ≡ map Some fs);
+-- over a command, from w to v, whose groups of stores and cache these are. Each call that fails is made e times more.
+-- `sure` says whether folders never fail
+abbrev pub of_command : (sure : Bool) → ℕ → Storage → Storage → List (List Location) → List ℕ → Evidence
+of_command sure e w v groups cache = record {
+  holds = λ fs. IsSomeAnd w.disk.folders (λ n. map (group_files sure n) groups ≡ map Some fs);
+  number = first_store groups;
   refused = λ c r. HaveLackedIn e c w v groups r;
   cache_failed = FolderRose w.disk v.disk cache;
   unfailed = DiskQuiet w.disk v.disk;
@@ -69,6 +73,7 @@ of_command e w v groups cache = record {
 abbrev pub of_calls : {S : Type 0} → StoreWords S → List (List S) → List (List S) → ℕ → ℕ → ℕ → Evidence
 of_calls {S} store before after worker m n = record {
   holds = λ fs. map store.folder (slice_index_or before 0 []) ≡ map Some fs;
+  number = λ k. k;
   refused = λ c r. (asked : List S) × (length asked ≡ length (slice_index_or after worker []))
       × Refuses store.said store.faults store.may_lack_memory c asked (slice_index_or after worker []) r;
   cache_failed = Rose m n;
@@ -114,7 +119,8 @@ module _ (over : Evidence) where
     pub id_is : id.0 ≡ id_of l k
     pub cache : IfSome (option_map chunks y) (λ m. GivesEntry l k m → over.cache_failed)
     pub said : over.refused (entry_want l k id) r
-    pub lacks : (fs : List (Map (List ℕ))) → over.holds fs → LacksAll (entry_want l k id) (map chunks fs) r
+    pub lacks : (fs : List (Map (List ℕ))) → over.holds fs
+        → LacksIn over.number (entry_want l k id) (map chunks fs) r
 
   -- what the answer says of the entry at which filling ended. Where the cache failed, the stores gave the chunk
   abbrev pub FillTells : Listing → Option (Map (List ℕ)) → ℕ → FillFault → Type 0
@@ -210,12 +216,12 @@ pub record GetsListed (w v : Storage) (e most : ℕ) (indexes : List (List ℕ))
 -- ---- the command
 
 -- the cache's folder was filled by each index, and given back with other files; no other folder has changed
-pub record FilledBetween (groups : List (List Location)) (e : ℕ) (cache : List ℕ) (most : ℕ) (indexes : List (List ℕ))
-    (w v : Storage) (r : Result Unit Outcome) : Type 0 where
+pub record FilledBetween (sure : Bool) (groups : List (List Location)) (e : ℕ) (cache : List ℕ) (most : ℕ)
+    (indexes : List (List ℕ)) (w v : Storage) (r : Result Unit Outcome) : Type 0 where
   pub held : Option (Map (List ℕ))
   pub was : IfSome w.disk.folders (λ m. m cache ≡ held)
   pub now : Option (Map (List ℕ))
-  pub filled : FillsEach (of_command e w v groups cache) w v indexes held now r
+  pub filled : FillsEach (of_command sure e w v groups cache) w v indexes held now r
   pub back : v.disk.folders ≡ option_map (λ m. at_name m cache now) w.disk.folders
   pub adds : Adds w.disk v.disk
   pub dials : Dials w.dial v.dial
@@ -223,15 +229,15 @@ pub record FilledBetween (groups : List (List Location)) (e : ℕ) (cache : List
   pub undialed : IsTrue (are_folders (stores_of groups) && are_files indexes) → v.dial ≡ w.dial
   pub asks : GetsListed w v e most indexes groups
 
-abbrev pub IndexesFilled : List (List Location) → ℕ → List ℕ → ℕ → List (List ℕ) → Step Storage Unit
-IndexesFilled groups e cache most indexes w r v = FilledBetween groups e cache most indexes w v r
+abbrev pub IndexesFilled : Bool → List (List Location) → ℕ → List ℕ → ℕ → List (List ℕ) → Step Storage Unit
+IndexesFilled sure groups e cache most indexes w r v = FilledBetween sure groups e cache most indexes w v r
 
 -- while the cache is used its folder counts as there. Up to `most` workers ask the stores
-abbrev pub CacheEnds : List (List Location) → ℕ → List ℕ → ℕ → List (List ℕ) → Step World Unit
-CacheEnds groups e cache most indexes = do
+abbrev pub CacheEnds : Bool → List (List Location) → ℕ → List ℕ → ℕ → List (List ℕ) → Step World Unit
+CacheEnds sure groups e cache most indexes = do
   _ ← OnDisk (SourcesOpened (stores_of groups))
   _ ← OnDisk (CacheOpened (stores_of groups) (Some cache))
-  OnStorage (IndexesFilled groups e cache most indexes)
+  OnStorage (IndexesFilled sure groups e cache most indexes)
 
 -- the index lists the id, under which bytes of that digest stand, by the index's kind of digest
 abbrev pub HoldsListed : Map (List ℕ) → List ℕ → Listing → Type 0

@@ -160,7 +160,7 @@ where
     requires refuser { filling.refuser ≡ 0 }
     requires located { chain_groups F.Look.Look filling.cached.chain ≡ words.now.stores }
     requires named { All NamesIndex words.now.indexes }
-    ensures filled { IndexesFilled words.now.stores words.now.retries words.now.cache
+    ensures filled { IndexesFilled F.Look.never_fails words.now.stores words.now.retries words.now.cache
         (1 + length filling.further.items) words.now.indexes (storage (with_cache
         (Some (shelf_of F.Folder.files F.Folder.place F.Folder.faults filling.cached.shelf)) (F.disk files.old))
         (D.state dial.old)) result (storage (F.disk files.new) (D.state dial.new)) }
@@ -197,8 +197,9 @@ where
     D::Link: Send,
     requires groups { AreGroups words.stores words.retries }
     requires named { All NamesIndex words.indexes }
-    ensures ends { (p : Output) → CacheEnds words.stores words.retries words.cache words.workers words.indexes
-        (world (F.disk files.old) (D.state dial.old) p) result (world (F.disk files.new) (D.state dial.new) p) }
+    ensures ends { (p : Output) → CacheEnds F.Look.never_fails words.stores words.retries words.cache words.workers
+        words.indexes (world (F.disk files.old) (D.state dial.old) p) result
+        (world (F.disk files.new) (D.state dial.new) p) }
 {
     let groups = words.stores.as_slice();
     let cache = words.cache.as_str();

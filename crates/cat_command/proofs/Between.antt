@@ -1,6 +1,5 @@
 -- What was put between two worlds, where the stores were opened in the first and given back in the second.
-use Rattle.std.proofs.Common.{◌≡◌, ℕ, zero, suc, ◌+◌, ◌<◌, List, [], ◌∷◌, length, map, All, slice_index, slice_index_or, Option, Some, None, IfSome, Result, Ok, Err, refl, sym, ap, subst, ◌∙◌, arith, inr}
-use Rattle.std.proofs.lemmas.List.{length-map}
+use Rattle.std.proofs.Common.{◌≡◌, ℕ, zero, suc, ◌+◌, ◌<◌, Bool, List, [], ◌∷◌, length, map, All, slice_index, slice_index_or, Option, Some, None, IfSome, Result, Ok, Err, refl, sym, subst, ◌∙◌, arith, inr}
 use Rattle.std.proofs.lemmas.List.Elements.{All-tail}
 use Rattle.std.specs.List.{Any}
 use Rattle.caibx_codec.specs.Listing.{Listing, Rules, id_of, kind_of, size_of}
@@ -16,8 +15,8 @@ use Rattle.command_outcome.specs.declared.outcome.Outcome.TheVariants as ends
 use Rattle.command_groups.proofs.Lacked.{damaged_is, groups_lack, lacks_numbered}
 use Rattle.command_groups.proofs.Standing.{GroupStands}
 use Rattle.command_groups.specs.Groups.{first_store, group_files}
-use Rattle.command_groups.specs.Lacking.{GroupsLack, group_said}
-use Rattle.command_groups.specs.Numbers.{IsNumbered, answer_of_stores}
+use Rattle.command_groups.specs.Lacking.{GroupsLack, LacksIn, group_said}
+use Rattle.command_groups.specs.Numbers.{IsNumbered, answer_of_stores, refused_of_stores}
 use Rattle.command_steps.specs.Sources.{storage_of}
 use Rattle.command_words.specs.declared.command.Location.{Location}
 use Rattle.command_worlds.specs.Steps.{◌>>=◌}
@@ -50,15 +49,15 @@ any_as location T P Q f (y ∷ xs) (q ∷ names) same all (suc k) x lt is p =
     let r = any_as location T P Q f xs names rest (All-tail T y xs all) k x (omega arith) is p in
     (suc r.0, r.1, omega arith, r.3, r.4)
 
-module _ {S : Type 0} (store : StoreWords S) (locations : S → List Location) (files : S → Option (Map (List ℕ))) (retries : ℕ) (w v : World) (groups : List (List Location)) (l : Listing) (rules : Rules l) (at n : ℕ) (c d : Chained S) (kind : c.kind ≡ kind_of l)
-    (held : (fs : List (Map (List ℕ))) → map files c.stores ≡ map Some fs → map store.holds c.stores ≡ map Some (map chunks fs)) (found : IfSome w.disk.folders (λ m. map files c.stores ≡ map (group_files m) groups))
+module _ {S : Type 0} (sure : Bool) (store : StoreWords S) (locations : S → List Location) (files : S → Option (Map (List ℕ))) (retries : ℕ) (w v : World) (groups : List (List Location)) (l : Listing) (rules : Rules l) (at n : ℕ) (c d : Chained S) (kind : c.kind ≡ kind_of l)
+    (held : (fs : List (Map (List ℕ))) → map files c.stores ≡ map Some fs → map store.holds c.stores ≡ map Some (map chunks fs)) (found : IfSome w.disk.folders (λ m. map files c.stores ≡ map (group_files sure m) groups))
     (located : map locations d.stores ≡ groups) (stand : All (GroupStands locations store.said store.faults retries (storage_of w) (storage_of v)) d.stores) where
   -- what holds where all groups tell
-  where_told : (P : List (Map (List ℕ)) → Type 0) → ((m : Map (Map (List ℕ))) (fs : List (Map (List ℕ))) → map (group_files m) groups ≡ map Some fs → map store.holds c.stores ≡ map Some (map chunks fs) → P fs) → IfFolders (storage_of w) groups P
+  where_told : (P : List (Map (List ℕ)) → Type 0) → ((fs : List (Map (List ℕ))) → map files c.stores ≡ map Some fs → map store.holds c.stores ≡ map Some (map chunks fs) → P fs) → IfFolders sure (storage_of w) groups P
   where_told P f = go w.disk.folders found where
-    go : (o : Option (Map (Map (List ℕ)))) → IfSome o (λ m. map files c.stores ≡ map (group_files m) groups) → IfSome o (λ m. (fs : List (Map (List ℕ))) → map (group_files m) groups ≡ map Some fs → P fs)
+    go : (o : Option (Map (Map (List ℕ)))) → IfSome o (λ m. map files c.stores ≡ map (group_files sure m) groups) → IfSome o (λ m. (fs : List (Map (List ℕ))) → map (group_files sure m) groups ≡ map Some fs → P fs)
     go None h = tt
-    go (Some m) h = λ fs told. f m fs told (held fs (h ∙ told))
+    go (Some m) h = λ fs told. f fs (h ∙ told) (held fs (h ∙ told))
 
   -- a chunk that was got
   gives_told : (i : ℕ) → IsGot store c.kind (want_of l i) c.stores d.stores → (fs : List (Map (List ℕ))) → map store.holds c.stores ≡ map Some (map chunks fs) → SomeGivesEntry l i (map chunks fs)
@@ -67,22 +66,22 @@ module _ {S : Type 0} (store : StoreWords S) (locations : S → List Location) (
       let any = g.held (map chunks fs) told in
       (any.0, any.1, any.2, any.3, (g.bytes, any.4, subst C kind g.chunk))
 
-  given_entry : (i : ℕ) → IsGot store c.kind (want_of l i) c.stores d.stores → IsGivenEntry groups retries l at n w v i
+  given_entry : (i : ℕ) → IsGot store c.kind (want_of l i) c.stores d.stores → IsGivenEntry sure groups retries l at n w v i
   given_entry i g =
       let C : DigestKind → Type 0 = λ k. IsChunk k (id_of l i) (size_of l i) g.bytes in
       let T = GroupStands locations store.said store.faults retries (storage_of w) (storage_of v) in
       record {
         shown = any_as locations T (λ s. (store.said s).shown (id_of l i) g.bytes) (λ y. HasShownEntry l i (group_said (storage_of w) (storage_of v) y)) (λ s so p. (g.bytes, (so.says (id_of l i)).shown g.bytes p, subst C kind g.chunk)) d.stores groups located stand g.shown.0 g.shown.1 g.shown.2 g.shown.3 g.shown.4;
-        held = where_told (λ fs. SomeGivesEntry l i (map chunks fs)) (λ m fs told holds. gives_told i g fs holds);
+        held = where_told (λ fs. SomeGivesEntry l i (map chunks fs)) (λ fs told holds. gives_told i g fs holds);
       }
 
-  puts_first : (m : ℕ) → PutsGiven store l at n c d w.out v.out m → PutsFirst groups retries l at n w v m
+  puts_first : (m : ℕ) → PutsGiven store l at n c d w.out v.out m → PutsFirst sure groups retries l at n w v m
   puts_first m h = record {
     fits = h.fits;
     text = h.puts.text;
     bytes = h.puts.bytes;
     exactly = where_told (λ fs. IsRange l at m (image_of_stores l (map chunks fs)) h.puts.text)
-        (λ x fs told holds. h.puts.bytes.right (image_of_stores l (map chunks fs)) (stores_right l (map chunks fs) rules at m (λ i covered. gives_told i (h.given i covered) fs holds)));
+        (λ fs told holds. h.puts.bytes.right (image_of_stores l (map chunks fs)) (stores_right l (map chunks fs) rules at m (λ i covered. gives_told i (h.given i covered) fs holds)));
     taken = h.puts.taken;
     given = λ i covered. given_entry i (h.given i covered);
   }
@@ -93,30 +92,27 @@ module _ {S : Type 0} (store : StoreWords S) (locations : S → List Location) (
       let R : DigestKind → Type 0 = λ x. Refuses store.said store.faults store.may_lack_memory (chunk_at x l k) h.before d.stores r in
       groups_lack locations store.said store.faults retries (storage_of w) (storage_of v) groups store.may_lack_memory (chunk_at (kind_of l) l k) r h.before d.stores h.many located stand (subst R kind h.refused)
 
-  as_many : (m : Map (Map (List ℕ))) (fs : List (Map (List ℕ))) → map (group_files m) groups ≡ map Some fs → length (map chunks fs) ≡ length groups
-  as_many m fs told = length-map fs chunks ∙ sym (length-map fs (λ f. Some f)) ∙ ap length (sym told) ∙ length-map groups (group_files m)
+  -- and by those of stores. Where all groups tell, the first store of each was active
+  module _ (active : List ℕ) (inside : (k : ℕ) → k < length groups → slice_index active k < length (slice_index_or groups k [])) (first : (fs : List (Map (List ℕ))) → map files c.stores ≡ map Some fs → (k : ℕ) → slice_index active k ≡ 0) where
+    puts_before : (k : ℕ) (id : ChunkId) (by_group r : Refused) → PutsUntil store l at n c d w.out v.out k id by_group → r ≡ refused_of_stores groups active by_group → IsNumbered groups by_group r → PutsBefore sure groups retries l at n w v k id r
+    puts_before k id by_group r h same is =
+        let L : List (Map (List ℕ)) → DigestKind → Type 0 = λ fs x. LacksAll (chunk_at x l k) (map chunks fs) by_group in
+        record {
+          covered = h.covered;
+          id_is = h.id_is;
+          puts = puts_first (bytes_before l at k) h.puts;
+          said = (by_group, is, lack k id by_group h);
+          lacks = where_told (λ fs. LacksIn (first_store groups) (chunk_at (kind_of l) l k) (map chunks fs) r)
+              (λ fs told holds. lacks_numbered groups active (first fs told) (chunk_at (kind_of l) l k) (map chunks fs) by_group r same (subst (L fs) kind (h.lacks (map chunks fs) holds)));
+        }
 
-  -- and by those of stores
-  puts_before : (k : ℕ) (id : ChunkId) (by_group r : Refused) → PutsUntil store l at n c d w.out v.out k id by_group → IsNumbered groups by_group r → PutsBefore groups retries l at n w v k id r
-  puts_before k id by_group r h is =
-      let L : List (Map (List ℕ)) → DigestKind → Type 0 = λ fs x. LacksAll (chunk_at x l k) (map chunks fs) by_group in
-      record {
-        covered = h.covered;
-        id_is = h.id_is;
-        puts = puts_first (bytes_before l at k) h.puts;
-        said = (by_group, is, lack k id by_group h);
-        lacks = where_told (λ fs. LacksAll (chunk_at (kind_of l) l k) (map chunks fs) r)
-            (λ m fs told holds. lacks_numbered m groups fs told (chunk_at (kind_of l) l k) (map chunks fs) (as_many m fs told) by_group r is (subst (L fs) kind (h.lacks (map chunks fs) holds)));
-      }
-
-  module _ (active : List ℕ) (inside : (k : ℕ) → k < length groups → slice_index active k < length (slice_index_or groups k [])) where
-    pub ends_between : (r : Result Unit Outcome) → EndsGiving store l at n c d w.out v.out r → EndsRange groups retries l at n w v (answer_of_stores groups active r)
+    pub ends_between : (r : Result Unit Outcome) → EndsGiving store l at n c d w.out v.out r → EndsRange sure groups retries l at n w v (answer_of_stores groups active r)
     ends_between (Ok u) h = puts_first n h
-    ends_between (Err (ends.Missing k id)) h = puts_before k id refused.Missing refused.Missing h refl
+    ends_between (Err (ends.Missing k id)) h = puts_before k id refused.Missing refused.Missing h refl refl
     ends_between (Err (ends.Damaged k id s x)) h =
-        puts_before k id (refused.Damaged s x) (refused.Damaged (first_store groups s + slice_index active s) x) h
+        puts_before k id (refused.Damaged s x) (refused.Damaged (first_store groups s + slice_index active s) x) h refl
         (damaged_is retries (chunk_at (kind_of l) l k) (storage_of w) (storage_of v) groups active inside s x (lack k id (refused.Damaged s x) h))
-    ends_between (Err (ends.StoreFault s)) h = (h.0, h.1, puts_before h.0 h.1 (refused.StoreFault s) (refused.StoreFault (first_store groups s)) h.2 refl)
+    ends_between (Err (ends.StoreFault s)) h = (h.0, h.1, puts_before h.0 h.1 (refused.StoreFault s) (refused.StoreFault (first_store groups s)) h.2 refl refl)
     ends_between (Err ends.OutFault) h = (h.0, (h.1.0, puts_first h.1.0 h.1.1))
     ends_between (Err ends.Memory) h = ((h.0.0, puts_first h.0.0 h.0.1), h.1)
     ends_between (Err other) h = absurd h

@@ -55,7 +55,7 @@ fn put_stored<F: Files, D: Dial, O: Sink>(
 ) -> Result<(), Outcome>
     requires groups { AreGroups sources.now.groups sources.now.retries }
     requires inside { range.size ≤ image_length index - range.at }
-    ensures ends { PutFrom sources.now.groups sources.now.retries index range.at range.size
+    ensures ends { PutFrom F.Look.never_fails sources.now.groups sources.now.retries index range.at range.size
         (world (F.disk files.old) (D.state dial.old) (O.output out.old)) result
         (world (F.disk files.new) (D.state dial.new) (O.output out.new)) }
 {
@@ -81,7 +81,7 @@ pub fn cat<F: Files, D: Dial, O: Sink>(
 ) -> Result<(), Outcome>
     requires stores { AreGroups words.stores words.retries }
     requires named { NamesIndex words.index }
-    ensures ends { CatEnds words.stores words.retries words.offset words.length words.index
+    ensures ends { CatEnds F.Look.never_fails words.stores words.retries words.offset words.length words.index
         (world (F.disk files.old) (D.state dial.old) (O.output out.old)) result
         (world (F.disk files.new) (D.state dial.new) (O.output out.new)) }
 {

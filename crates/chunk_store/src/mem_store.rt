@@ -87,6 +87,8 @@ impl Store for MemStore {
 
     ghost never_fails = { true };
 
+    ghost told_never_fail = { true };
+
     ghost may_lack_memory = { false };
 
     fn get(&mut self, id: &ChunkId, out: &mut [u8]) -> Result<usize, GetFault> {
@@ -109,6 +111,8 @@ impl Store for MemStore {
     ghost told = { λ _ _. refl };
 
     ghost sure = { λ _ _. refl };
+
+    ghost steady = { λ _ _ _. refl };
 }
 
 impl StoreWrite for MemStore {

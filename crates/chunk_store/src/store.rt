@@ -56,6 +56,9 @@ pub trait Store: Drop {
     /// Whether the type never fails.
     ghost never_fails: { Bool };
 
+    /// Whether those stores of the type that tell what they hold never fail.
+    ghost told_never_fail: { Bool };
+
     /// Whether `get` and `has` may answer that there was no memory.
     ghost may_lack_memory: { Bool };
 
@@ -107,6 +110,9 @@ pub trait Store: Drop {
 
     /// A type that never fails counts no fault.
     ghost sure: { (s : Self) → IsTrue never_fails → faults s ≡ 0 };
+
+    /// A store that tells counts no fault, where those of its type that tell never fail.
+    ghost steady: { (s : Self) → IsTrue told_never_fail → IsSome (holds s) → faults s ≡ 0 };
 }
 
 /// A store that takes chunks.

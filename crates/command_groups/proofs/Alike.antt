@@ -1,18 +1,19 @@
 -- Groups that were opened for the same words from the same folders hold the same chunks.
 use Rattle.std.proofs.Common.{◌≡◌, ◌∙◌, Bool, false, List, [], ◌∷◌, map, length, is_some, Option, Some, None, IfSome, IsTrue, refl, sym, ap, ℕ}
+use Rattle.std.specs.List.{All}
 use Rattle.std.specs.Option.{option_map}
 use Rattle.chunk_store.specs.Folders.{chunks}
+use Rattle.command_groups.proofs.Seen.{all_hold, held_by}
 use Rattle.command_groups.proofs.Stand.{many_stores}
-use Rattle.command_groups.specs.Groups.{group_files}
-use Rattle.command_groups.specs.Opened.{files_in, locations_in}
-use Rattle.command_steps.specs.AnyStores.{chunks_in, source_files}
+use Rattle.command_groups.specs.Opened.{files_in, locations_in, told_chunks}
+use Rattle.command_steps.specs.AnyStores.{source_files}
 use Rattle.command_steps.specs.Sources.{location_files}
 use Rattle.command_steps.specs.declared.any_store.AnyStore.{AnyStore}
 use Rattle.command_steps.specs.declared.any_store.AnyStore.TheVariants as stores
 use Rattle.command_words.specs.declared.command.Location.{Location}
 use Rattle.dsy_base.specs.Maps.{Map}
 use Rattle.store_chain.proofs.Pairs.{cons_head, cons_tail}
-use Rattle.store_group.specs.Groups.{Grouped, of_one}
+use Rattle.store_group.specs.Groups.{Grouped}
 
 -- a type that doesn't tell has nothing to see
 untold_files : {X : Type 0} (tells looks : Bool) (o : Option X) → is_some o ≡ looks → (IsTrue looks → IsTrue tells) → tells ≡ false → o ≡ None
@@ -20,20 +21,6 @@ untold_files tells looks None told seen quiet = refl
 untold_files tells looks (Some x) told seen quiet =
     let no : IsTrue tells = seen (sym told) in
     absurd (cc)
-
-map_twice : {A B C : Type 0} (g : B → C) (f : A → B) (xs : List A) → map (λ x. g (f x)) xs ≡ map g (map f xs)
-map_twice g f [] = refl
-map_twice g f (x ∷ xs) = ap (λ l. g (f x) ∷ l) (map_twice g f xs)
-
--- what a group holds, by the files of its folders
-abbrev held_by : List (Option (Map (List ℕ))) → Option (Map (List ℕ))
-held_by folders = of_one (option_map chunks) folders
-
-known_each : (m : Map (Map (List ℕ))) (groups : List (List Location)) → map (λ g. held_by (map (location_files m) g)) groups ≡ map (λ g. option_map chunks (group_files m g)) groups
-known_each m [] = refl
-known_each m ([] ∷ groups) = ap (λ l. None ∷ l) (known_each m groups)
-known_each m ((q ∷ []) ∷ groups) = ap (λ l. option_map chunks (location_files m q) ∷ l) (known_each m groups)
-known_each m ((q ∷ r ∷ g) ∷ groups) = ap (λ l. None ∷ l) (known_each m groups)
 
 module _ {L D K : Type 0} (files : L → Option (Map (List ℕ))) (place : L → List ℕ) where
   none_seen : ((l : L) → files l ≡ None) → (x : AnyStore L D K) → source_files files x ≡ None
@@ -66,25 +53,9 @@ module _ {L D K : Type 0} (files : L → Option (Map (List ℕ))) (place : L →
   files_alike tells looks told seen (Some m) tells_are names xs ys same one two = one ∙ sym two
   files_alike tells looks told seen None tells_are names xs ys same one two = nothing_in (λ l. untold_files tells looks (files l) (told l) seen (sym tells_are)) xs ys same
 
-  group_holds : (xs : List (AnyStore L D K)) → of_one (chunks_in files) xs ≡ held_by (map (source_files files) xs)
-  group_holds [] = refl
-  group_holds (x ∷ []) = refl
-  group_holds (x ∷ y ∷ xs) = refl
-
-  all_hold : (xs : List (Grouped (AnyStore L D K))) → map (λ g. of_one (chunks_in files) g.stores) xs ≡ map (λ g. held_by (files_in files g)) xs
-  all_hold [] = refl
-  all_hold (g ∷ xs) = λ i. group_holds g.stores i ∷ all_hold xs i
-
   -- two lists of groups that were opened for the same words from the same folders
-  pub hold_alike : (tells looks : Bool) → ((l : L) → is_some (files l) ≡ looks) → (IsTrue looks → IsTrue tells) → (folders : Option (Map (Map (List ℕ)))) → is_some folders ≡ tells → (names : List (List Location)) (xs ys : List (Grouped (AnyStore L D K)))
+  pub hold_alike : (sure tells looks : Bool) → ((l : L) → is_some (files l) ≡ looks) → (IsTrue looks → IsTrue tells) → (folders : Option (Map (Map (List ℕ)))) → is_some folders ≡ tells → (names : List (List Location)) (xs ys : List (Grouped (AnyStore L D K)))
       → map (locations_in place) xs ≡ names → map (locations_in place) ys ≡ names → IfSome folders (λ m. map (files_in files) xs ≡ map (map (location_files m)) names) → IfSome folders (λ m. map (files_in files) ys ≡ map (map (location_files m)) names)
-      → map (λ g. of_one (chunks_in files) g.stores) xs ≡ map (λ g. of_one (chunks_in files) g.stores) ys
-  hold_alike tells looks told seen folders tells_are names xs ys at there one two =
-      all_hold xs ∙ map_twice held_by (files_in files) xs ∙ ap (map held_by) (files_alike tells looks told seen folders tells_are names xs ys (at ∙ sym there) one two) ∙ sym (map_twice held_by (files_in files) ys) ∙ sym (all_hold ys)
-
-  -- what groups hold that were opened from these folders
-  pub groups_known : (folders : Option (Map (Map (List ℕ)))) (xs : List (Grouped (AnyStore L D K))) (groups : List (List Location)) → IfSome folders (λ m. map (files_in files) xs ≡ map (map (location_files m)) groups)
-      → IfSome folders (λ m. map (λ g. of_one (chunks_in files) g.stores) xs ≡ map (λ g. option_map chunks (group_files m g)) groups)
-  groups_known None xs groups found = tt
-  groups_known (Some m) xs groups found =
-      all_hold xs ∙ map_twice held_by (files_in files) xs ∙ ap (map held_by) found ∙ sym (map_twice held_by (map (location_files m)) groups) ∙ known_each m groups
+      → All (λ g. g.active ≡ 0) xs → All (λ g. g.active ≡ 0) ys → map (told_chunks sure files) xs ≡ map (told_chunks sure files) ys
+  hold_alike sure tells looks told seen folders tells_are names xs ys at there one two first next =
+      all_hold sure files xs first ∙ ap (map (held_by sure)) (files_alike tells looks told seen folders tells_are names xs ys (at ∙ sym there) one two) ∙ sym (all_hold sure files ys next)

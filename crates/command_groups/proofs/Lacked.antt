@@ -1,28 +1,26 @@
 -- What groups that were given back have said of a chunk that they refused, and under which numbers.
-use Rattle.std.proofs.Common.{◌≡◌, ◌⊎◌, ◌+◌, ◌<◌, ◌≤◌, ℕ, zero, suc, List, [], ◌∷◌, ◌++◌, length, map, take, slice_index, slice_index_or, Option, Some, Bool, refl, sym, subst, arith}
-use Rattle.std.proofs.lemmas.List.{length-append}
+use Rattle.std.proofs.Common.{ap, ◌≡◌, ◌∙◌, ◌⊎◌, ◌+◌, ◌<◌, ◌≤◌, ℕ, zero, suc, List, [], ◌∷◌, ◌++◌, length, map, take, slice_index, slice_index_or, Option, Some, Bool, refl, sym, subst, arith}
 use Rattle.std.proofs.lemmas.List.Elements.{All-cons, All-head, All-nil, All-tail}
 use Rattle.std.specs.List.{All, zip}
 use Rattle.chunk_store.specs.Said.{KeepsOf, Said}
 use Rattle.chunk_store.specs.declared.shows.Shows.{Shows}
 use Rattle.chunk_store.specs.declared.shows.Shows.TheVariants as shows
 use Rattle.command_groups.proofs.Standing.{GroupStands, each_as, either, failed, first_as, lacked}
-use Rattle.command_groups.specs.Groups.{first_store, group_files, stores_of}
-use Rattle.command_groups.specs.Lacking.{GroupFailsFirst, GroupRose, GroupsLack, HaveLackedIn, group_said}
-use Rattle.command_groups.specs.Numbers.{IsNumbered, IsStoreOf}
+use Rattle.command_groups.specs.Groups.{first_store}
+use Rattle.command_groups.specs.Lacking.{GroupFailsFirst, GroupRose, GroupsLack, HaveLackedIn, LacksIn, group_said}
+use Rattle.command_groups.specs.Numbers.{IsNumbered, refused_of_stores}
 use Rattle.command_steps.proofs.Lacked.{lacks_still}
-use Rattle.command_steps.specs.Sources.{Storage, location_files}
+use Rattle.command_steps.specs.Sources.{Storage}
 use Rattle.command_words.specs.declared.command.Location.{Location}
 use Rattle.dsy_base.specs.Counts.{Rose}
 use Rattle.dsy_base.specs.Maps.{Map}
 use Rattle.store_chain.proofs.Pairs.{cons_head, cons_tail}
-use Rattle.store_chain.specs.Giving.{Gives, HoldsElse, HoldsNone, LacksAll}
+use Rattle.store_chain.specs.Giving.{LacksAll}
 use Rattle.store_chain.specs.Lists.{FirstAt}
 use Rattle.store_chain.specs.Refusals.{HasShown, Lacks, Refuses}
 use Rattle.store_chain.specs.declared.query.Query.{Query}
 use Rattle.store_chain.specs.declared.refused.Refused.{Refused}
 use Rattle.store_chain.specs.declared.refused.Refused.TheVariants as refused
-use Rattle.store_group.specs.Groups.{of_one}
 
 -- what was shown is shown still
 shown_on : (c : Query) (x : Shows) (a b : Said) → KeepsOf a b c.id.0 → HasShown c x a → HasShown c x b
@@ -79,44 +77,15 @@ module _ (e : ℕ) (c : Query) (w v : Storage) (groups : List (List Location)) w
   pub fault_numbered : (k : ℕ) → GroupsLack e c w v groups (refused.StoreFault k) → HaveLackedIn e c w v groups (refused.StoreFault (first_store groups k))
   fault_numbered k h = (refused.StoreFault k, refl, h)
 
--- ---- groups of one store
+-- ---- groups that tell, whose first store is asked first
 
--- a group that tells its files is one store
-one_told : {S X : Type 0} (f : S → Option X) (x : X) (xs : List S) → of_one f xs ≡ Some x → length xs ≡ 1
-one_told f x [] told = absurd (cc)
-one_told f x (a ∷ []) told = refl
-one_told f x (a ∷ b ∷ xs) told = absurd (cc)
-
-pub told_singles : (m : Map (Map (List ℕ))) (groups : List (List Location)) (fs : List (Map (List ℕ))) → map (group_files m) groups ≡ map Some fs → All (λ g. length g ≡ 1) groups
-told_singles m [] fs told = All-nil (λ (g : List Location). length g ≡ 1)
-told_singles m (g ∷ groups) [] told = absurd (cc)
-told_singles m (g ∷ groups) (f ∷ fs) told =
-    All-cons (λ (g : List Location). length g ≡ 1) g groups (one_told (location_files m) f g (cons_head (group_files m g) (Some f) (map (group_files m) groups) (map Some fs) told))
-    (told_singles m groups fs (cons_tail (group_files m g) (Some f) (map (group_files m) groups) (map Some fs) told))
-
--- their numbers are those of their stores
-pub first_of_singles : (groups : List (List Location)) → All (λ g. length g ≡ 1) groups → (k : ℕ) → k ≤ length groups → first_store groups k ≡ k
-first_of_singles groups single zero le = refl
-first_of_singles [] single (suc k) le = absurd (omega (arith, le))
-first_of_singles (g ∷ groups) single (suc k) le =
-    let one = All-head (λ (g : List Location). length g ≡ 1) g groups single in
-    let rest = first_of_singles groups (All-tail (λ (g : List Location). length g ≡ 1) g groups single) k (omega (arith, le)) in
-    let both : length (g ++ stores_of (take k groups)) ≡ length g + length (stores_of (take k groups)) = length-append g (stores_of (take k groups)) in
-    omega (arith, one, rest, both)
-
-store_of_single : (groups : List (List Location)) → All (λ g. length g ≡ 1) groups → (k s : ℕ) → k < length groups → IsStoreOf groups k s → s ≡ k
-store_of_single groups single k s lt h =
-    let first = first_of_singles groups single k (omega (arith, lt)) in
-    let one : length (slice_index_or groups k []) ≡ 1 = single k [] lt in
-    omega (arith, first, one, h.0, h.1)
-
--- so what stores lack is told of them by the same number
-pub lacks_numbered : (m : Map (Map (List ℕ))) (groups : List (List Location)) (fs : List (Map (List ℕ))) → map (group_files m) groups ≡ map Some fs → (c : Query) (maps : List (Map (List ℕ))) → length maps ≡ length groups
-    → (by_group r : Refused) → IsNumbered groups by_group r → LacksAll c maps by_group → LacksAll c maps r
-lacks_numbered m groups fs told c maps many refused.Missing r is h = subst (LacksAll c maps) (sym is) h
-lacks_numbered m groups fs told c maps many (refused.Damaged k x) r is h =
-    let lt = first_inside (HoldsNone c) (HoldsElse c x) (λ y. Gives c y → ⊥) k maps h in
-    let same = store_of_single groups (told_singles m groups fs told) k is.0 (omega (arith, lt, many)) is.2 in
-    subst (LacksAll c maps) (sym is.1) (subst (λ (n : ℕ). LacksAll c maps (refused.Damaged n x)) (sym same) h)
-lacks_numbered m groups fs told c maps many (refused.StoreFault k) r is h = subst (LacksAll c maps) (sym is) tt
-lacks_numbered m groups fs told c maps many refused.Memory r is h = subst (LacksAll c maps) (sym is) tt
+-- what they lack is told of them by the number of that store
+pub lacks_numbered : (groups : List (List Location)) (active : List ℕ) → ((k : ℕ) → slice_index active k ≡ 0) → (c : Query) (maps : List (Map (List ℕ))) (by_group r : Refused) → r ≡ refused_of_stores groups active by_group → LacksAll c maps by_group
+    → LacksIn (first_store groups) c maps r
+lacks_numbered groups active first c maps refused.Missing r is h = (refused.Missing, is, h)
+lacks_numbered groups active first c maps (refused.Damaged k x) r is h =
+    let at = first k in
+    let same : first_store groups k + slice_index active k ≡ first_store groups k = omega (arith, at) in
+    (refused.Damaged k x, is ∙ ap (λ (n : ℕ). refused.Damaged n x) same, h)
+lacks_numbered groups active first c maps (refused.StoreFault k) r is h = (refused.StoreFault k, is, h)
+lacks_numbered groups active first c maps refused.Memory r is h = (refused.Memory, is, h)

@@ -1,5 +1,6 @@
 pub mod Decoded
 pub mod Words
+pub mod Seen
 pub mod Stand
 pub mod Standing
 pub mod Lacked

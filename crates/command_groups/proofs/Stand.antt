@@ -1,13 +1,12 @@
 -- Groups that were asked: where they stand, how often their calls are made again, and what their folders hold.
-use Rattle.std.proofs.Common.{◌≡◌, ◌∙◌, ◌++◌, ◌+◌, ◌<◌, ◌≤◌, ℕ, zero, suc, List, [], ◌∷◌, length, map, slice_index, slice_index_or, Option, Some, None, IfSome, refl, sym, ap, arith}
+use Rattle.std.proofs.Common.{Bool, ◌&&◌, ◌≡◌, ◌∙◌, ◌++◌, ◌+◌, ◌<◌, ◌≤◌, ℕ, zero, suc, List, [], ◌∷◌, length, map, slice_index, slice_index_or, Option, Some, None, IfSome, refl, sym, ap, arith}
 use Rattle.std.proofs.lemmas.List.{length-append, length-map}
 use Rattle.std.proofs.lemmas.List.Elements.{All-cons, All-head, All-nil, All-tail}
 use Rattle.std.specs.List.{All, AllZip}
-use Rattle.std.specs.Option.{option_map}
 use Rattle.chunk_store.specs.Asks.{Ask, Sends}
-use Rattle.chunk_store.specs.Folders.{chunks}
 use Rattle.command_groups.proofs.Decoded.{group_files_same, places_same}
-use Rattle.command_groups.specs.Groups.{AreGroups, group_files, stores_of}
+use Rattle.command_groups.proofs.Seen.{seen_one}
+use Rattle.command_groups.specs.Groups.{AreGroups, stores_of}
 use Rattle.command_groups.specs.Opened.{IsFresh, files_in, locations_in, told_files}
 use Rattle.command_steps.proofs.Given.{stand_still}
 use Rattle.command_steps.specs.AnyStores.{chunks_in, location_in, place_in, source_files, source_sent}
@@ -17,7 +16,7 @@ use Rattle.command_words.specs.declared.command.Location.{Location}
 use Rattle.dsy_base.specs.Links.{DialState}
 use Rattle.dsy_base.specs.Maps.{Map}
 use Rattle.store_chain.proofs.Pairs.{cons_head, cons_tail}
-use Rattle.store_group.specs.Groups.{Grouped, group_place, of_one, places_of, sent_of}
+use Rattle.store_group.specs.Groups.{Grouped, all_tell, group_place, places_of, sent_of}
 
 -- ---- where they stand
 
@@ -63,9 +62,9 @@ sizes_stand place (g ∷ xs) (q ∷ groups) same =
 
 -- ---- what their folders hold
 
-module _ {L D K : Type 0} (place : L → List ℕ) (files : L → Option (Map (List ℕ))) (state : D → DialState) where
+module _ {L D K : Type 0} (place : L → List ℕ) (sure : Bool) (files : L → Option (Map (List ℕ))) (state : D → DialState) where
   -- the files of all folders are as they were, where the groups were only asked
-  pub folders_still : (P : Ask → Type 0) (old new : List (Grouped (AnyStore L D K))) → map (locations_in place) new ≡ map (locations_in place) old → map (told_files files) new ≡ map (told_files files) old
+  pub folders_still : (P : Ask → Type 0) (old new : List (Grouped (AnyStore L D K))) → map (locations_in place) new ≡ map (locations_in place) old → map (told_files sure files) new ≡ map (told_files sure files) old
       → AllZip (λ a b. Sends P (sent_of (source_sent state) (source_files files) a.stores) (sent_of (source_sent state) (source_files files) b.stores)) old new
       → map (files_in files) new ≡ map (files_in files) old
   folders_still P [] [] same told sends = refl
@@ -73,63 +72,31 @@ module _ {L D K : Type 0} (place : L → List ℕ) (files : L → Option (Map (L
   folders_still P (g ∷ old) [] same told sends = absurd sends
   folders_still P (g ∷ old) (h ∷ new) same told sends =
       let stands = cons_head (locations_in place h) (locations_in place g) (map (locations_in place) new) (map (locations_in place) old) same in
-      let tells = cons_head (told_files files h) (told_files files g) (map (told_files files) new) (map (told_files files) old) told in
-      let one = group_files_same (source_files files) (source_sent state) h.stores g.stores (many_stores place h g stands) tells sends.0.spells in
+      let tells = cons_head (told_files sure files h) (told_files sure files g) (map (told_files sure files) new) (map (told_files sure files) old) told in
+      let many = many_stores place h g stands in
+      let alone = seen_one (source_files files) (sure && all_tell (chunks_in files) h.stores) (sure && all_tell (chunks_in files) g.stores) h.active g.active h.stores g.stores many tells in
+      let one = group_files_same (source_files files) (source_sent state) h.stores g.stores many alone sends.0.spells in
       let others = folders_still P old new (cons_tail (locations_in place h) (locations_in place g) (map (locations_in place) new) (map (locations_in place) old) same)
-      (cons_tail (told_files files h) (told_files files g) (map (told_files files) new) (map (told_files files) old) told) sends.1 in
+      (cons_tail (told_files sure files h) (told_files sure files g) (map (told_files sure files) new) (map (told_files sure files) old) told) sends.1 in
       λ i. one i ∷ others i
 
--- ---- what a group of one tells
-
-of_one_map : {S X : Type 0} (f : S → Option X) (xs : List S) → of_one f xs ≡ of_one (λ (o : Option X). o) (map f xs)
-of_one_map f [] = refl
-of_one_map f (x ∷ []) = refl
-of_one_map f (x ∷ y ∷ xs) = refl
-
-one_alike : {S T X : Type 0} (f : S → Option X) (h : T → Option X) (xs : List S) (ys : List T) → map f xs ≡ map h ys → of_one f xs ≡ of_one h ys
-one_alike f h xs ys same = of_one_map f xs ∙ ap (of_one (λ o. o)) same ∙ sym (of_one_map h ys)
+-- ---- what was found of their folders
 
 module _ {L D K : Type 0} (files : L → Option (Map (List ℕ))) where
-  told_in : (m : Map (Map (List ℕ))) (xs : List (Grouped (AnyStore L D K))) (groups : List (List Location)) → map (files_in files) xs ≡ map (map (location_files m)) groups → map (told_files files) xs ≡ map (group_files m) groups
-  told_in m [] [] same = refl
-  told_in m [] (q ∷ groups) same = absurd (cc)
-  told_in m (g ∷ xs) [] same = absurd (cc)
-  told_in m (g ∷ xs) (q ∷ groups) same =
-      let one = one_alike (source_files files) (location_files m) g.stores q (cons_head (files_in files g) (map (location_files m) q) (map (files_in files) xs) (map (map (location_files m)) groups) same) in
-      let others = told_in m xs groups (cons_tail (files_in files g) (map (location_files m) q) (map (files_in files) xs) (map (map (location_files m)) groups) same) in
-      λ i. one i ∷ others i
-
-  -- what was found of the folders, the groups tell
-  pub groups_tell : (folders : Option (Map (Map (List ℕ)))) (xs : List (Grouped (AnyStore L D K))) (groups : List (List Location)) → IfSome folders (λ m. map (files_in files) xs ≡ map (map (location_files m)) groups)
-      → IfSome folders (λ m. map (told_files files) xs ≡ map (group_files m) groups)
-  groups_tell None xs groups found = tt
-  groups_tell (Some m) xs groups found = told_in m xs groups found
-
   -- it stands still
   pub found_after : (folders : Option (Map (Map (List ℕ)))) (before after : List (Grouped (AnyStore L D K))) (groups : List (List Location)) → map (files_in files) after ≡ map (files_in files) before
       → IfSome folders (λ m. map (files_in files) before ≡ map (map (location_files m)) groups) → IfSome folders (λ m. map (files_in files) after ≡ map (map (location_files m)) groups)
   found_after None before after groups kept found = tt
   found_after (Some m) before after groups kept found = kept ∙ found
 
-  -- a group holds the chunks of the files that it tells
-  one_holds : (xs : List (AnyStore L D K)) → of_one (chunks_in files) xs ≡ option_map chunks (of_one (source_files files) xs)
-  one_holds [] = refl
-  one_holds (x ∷ []) = refl
-  one_holds (x ∷ y ∷ xs) = refl
-
-  pub groups_hold : (xs : List (Grouped (AnyStore L D K))) (fs : List (Map (List ℕ))) → map (told_files files) xs ≡ map Some fs → map (λ g. of_one (chunks_in files) g.stores) xs ≡ map Some (map chunks fs)
-  groups_hold [] [] told = refl
-  groups_hold [] (f ∷ fs) told = absurd (cc)
-  groups_hold (g ∷ xs) [] told = absurd (cc)
-  groups_hold (g ∷ xs) (f ∷ fs) told =
-      let one : of_one (chunks_in files) g.stores ≡ Some (chunks f) = one_holds g.stores ∙ ap (option_map chunks) (cons_head (told_files files g) (Some f) (map (told_files files) xs) (map Some fs) told) in
-      let others = groups_hold xs fs (cons_tail (told_files files g) (Some f) (map (told_files files) xs) (map Some fs) told) in
-      λ i. one i ∷ others i
-
 -- ---- groups that were just made
 
 pub fresh_tries : {S : Type 0} (counted : S → ℕ) (e : ℕ) (xs : List (Grouped S)) → All (IsFresh counted e) xs → All (λ g. g.retries ≡ e) xs
 fresh_tries counted e xs fresh = λ k d lt. (fresh k d lt).retries
+
+-- the first store of each is asked first
+pub fresh_first : {S : Type 0} (counted : S → ℕ) (e : ℕ) (xs : List (Grouped S)) → All (IsFresh counted e) xs → All (λ g. g.active ≡ 0) xs
+fresh_first counted e xs fresh = λ k d lt. (fresh k d lt).active
 
 -- none has failed
 pub fresh_counts : {S X : Type 0} (counted : S → ℕ) (e : ℕ) (xs : List (Grouped S)) (names : List X) → length xs ≡ length names → All (IsFresh counted e) xs → map (λ g. g.failed) xs ≡ map (λ q. 0) names

@@ -1,15 +1,17 @@
 -- What groups that were given back have said and counted, as the words that name them.
-use Rattle.std.proofs.Common.{◌≡◌, ◌⊎◌, ◌+◌, ◌*◌, ◌<◌, ◌≤◌, ℕ, zero, suc, List, [], ◌∷◌, length, map, Option, Some, None, IfSome, subst, inl, inr, arith}
+use Rattle.std.proofs.Common.{Bool, false, ◌≡◌, ◌⊎◌, ◌+◌, ◌*◌, ◌<◌, ◌≤◌, ℕ, zero, suc, List, [], ◌∷◌, length, map, Option, Some, None, IfSome, subst, inl, inr, arith}
 use Rattle.std.proofs.Math.Nat.{mul-le-mul_right}
 use Rattle.std.proofs.lemmas.List.Elements.{All-cons, All-from_recursion, All-head, All-nil, All-tail}
 use Rattle.std.specs.List.{All, zip}
+use Rattle.chunk_store.proofs.Said.{keeps_on}
 use Rattle.chunk_store.specs.Said.{KeepsOf, Said}
 use Rattle.command_groups.specs.Lacking.{GroupRose, RoseBy, group_said}
 use Rattle.command_groups.specs.Opened.{IsGroupGiven, files_in, locations_in}
+use Rattle.command_groups.proofs.Seen.{group_keeps}
 use Rattle.command_steps.proofs.Dialed.{at_least_among}
 use Rattle.command_steps.proofs.Given.{Stands, all_stand}
 use Rattle.command_steps.proofs.Numbers.{rose_later}
-use Rattle.command_steps.specs.AnyStores.{IsGiven, location_in, said_in, source_faults}
+use Rattle.command_steps.specs.AnyStores.{IsGiven, chunks_in, location_in, said_in, source_faults}
 use Rattle.command_steps.specs.Dials.{since}
 use Rattle.command_steps.specs.Sources.{Storage, location_files, said_at}
 use Rattle.command_steps.specs.declared.any_store.AnyStore.{AnyStore}
@@ -21,7 +23,7 @@ use Rattle.dsy_base.specs.Maps.{Map}
 use Rattle.http_read.specs.Refusals.{IsUnacceptable}
 use Rattle.store_chain.proofs.Pairs.{cons_head, cons_tail}
 use Rattle.store_chain.specs.Lists.{FirstAt}
-use Rattle.store_group.specs.Groups.{Grouped, SomeStore, said_of}
+use Rattle.store_group.specs.Groups.{Grouped, SomeStore, group_told, said_of}
 
 -- what some store is like, the words of some store are like
 some_at : {S X : Type 0} (location : S → X) (T P : S → Type 0) (Q : X → Type 0) → ((s : S) → T s → P s → Q (location s)) → (xs : List S) → All T xs → SomeStore P xs → SomeStore Q (map location xs)
@@ -125,15 +127,16 @@ module _ {S X : Type 0} (location : S → X) (T : S → Type 0) where
       (subst U here (f (a, b) (All-head T b after stands) h.0), first_as B A C U Y Z f g i k before after names n rest (All-tail T b after stands) h.1)
 
 -- the groups of a command stand so once they are given back
-module _ {L D K : Type 0} (files : L → Option (Map (List ℕ))) (place : L → List ℕ) (faults : L → ℕ) (state : D → DialState) (e : ℕ) (w v : Storage) where
+module _ {L D K : Type 0} (sure : Bool) (files : L → Option (Map (List ℕ))) (place : L → List ℕ) (faults : L → ℕ) (state : D → DialState) (e : ℕ) (w v : Storage) where
   abbrev pub Standing : Grouped (AnyStore L D K) → Type 0
-  Standing g = GroupStands (locations_in place) (λ (h : Grouped (AnyStore L D K)). said_of (said_in files state) h.stores) (λ (h : Grouped (AnyStore L D K)). h.failed) e w v g
+  Standing g = GroupStands (locations_in place) (group_told false sure (chunks_in files) (said_in files state)) (λ (h : Grouped (AnyStore L D K)). h.failed) e w v g
 
   one_stands : (g : Grouped (AnyStore L D K)) (q : List Location) → locations_in place g ≡ q → IfSome w.disk.folders (λ m. files_in files g ≡ map (location_files m) q) → g.retries ≡ e → IsGroupGiven place faults state w v g → Standing g
   one_stands g q same held tries given =
       let stand = all_stand files place faults state w v g.stores q same held given.stores in
       record {
-        says = group_says (location_in place) (said_in files state) (source_faults faults state) w v g.stores stand;
+        says = λ id. keeps_on (group_told false sure (chunks_in files) (said_in files state) g) (said_of (said_in files state) g.stores) (group_said w v (locations_in place g)) id
+            (group_keeps (said_in files state) sure (chunks_in files) g id) (group_says (location_in place) (said_in files state) (source_faults faults state) w v g.stores stand id);
         rises = group_rises place faults state w v e g tries given;
       }
 

@@ -20,6 +20,7 @@ any_words look state = record {
   place = place_in look.place;
   tells = false;
   never_fails = false;
+  told_never_fail = look.never_fails;
   may_lack_memory = true;
 }
 

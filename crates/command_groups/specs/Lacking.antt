@@ -4,7 +4,7 @@ use Rattle.std.specs.List.{All}
 use Rattle.std.specs.Map.{count_at}
 use Rattle.chunk_store.specs.Said.{Said}
 use Rattle.command_groups.specs.Groups.{first_store}
-use Rattle.command_groups.specs.Numbers.{IsNumbered}
+use Rattle.command_groups.specs.Numbers.{IsNumbered, numbered_by}
 use Rattle.command_steps.specs.Dials.{since}
 use Rattle.command_steps.specs.Sources.{Storage, said_at, server_at}
 use Rattle.command_words.specs.declared.command.Location.{Location}
@@ -12,12 +12,18 @@ use Rattle.command_words.specs.declared.command.Location.TheVariants as location
 use Rattle.dsy_base.specs.Counts.{raised}
 use Rattle.http_read.specs.Refusals.{IsUnacceptable}
 use Rattle.http_read.specs.Remotes.{AtLeast}
+use Rattle.dsy_base.specs.Maps.{Map}
+use Rattle.store_chain.specs.Giving.{LacksAll}
 use Rattle.store_chain.specs.Lists.{FirstAt}
 use Rattle.store_chain.specs.Refusals.{HasShown, Lacks}
 use Rattle.store_chain.specs.declared.query.Query.{Query}
 use Rattle.store_chain.specs.declared.refused.Refused.{Refused}
 use Rattle.store_chain.specs.declared.refused.Refused.TheVariants as refused
 use Rattle.store_group.specs.Groups.{said_of}
+
+-- groups that hold these chunks lack the one that is wanted, for this reason, which names stores by these numbers
+abbrev pub LacksIn : (ℕ → ℕ) → Query → List (Map (List ℕ)) → Refused → Type 0
+LacksIn number c maps r = (by_group : Refused) × (r ≡ numbered_by number by_group) × LacksAll c maps by_group
 
 -- what some store of the group has said
 abbrev pub group_said : Storage → Storage → List Location → Said

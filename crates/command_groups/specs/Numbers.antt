@@ -18,6 +18,12 @@ IsNumbered groups (refused.Damaged k x) r = (s : ℕ) × (r ≡ refused.Damaged 
 IsNumbered groups (refused.StoreFault k) r = r ≡ refused.StoreFault (first_store groups k)
 IsNumbered groups refused.Memory r = r ≡ refused.Memory
 
+-- the refusal with the number of a store for that of its group
+abbrev pub numbered_by : (ℕ → ℕ) → Refused → Refused
+numbered_by number (refused.StoreFault k) = refused.StoreFault (number k)
+numbered_by number (refused.Damaged k x) = refused.Damaged (number k) x
+numbered_by number other = other
+
 -- the outcome with the number of the first store of the group that failed in the place of the group's, and with that
 -- of the group's active store where that gave something else. `active` are the groups' active stores
 abbrev pub outcome_of_stores : List (List Location) → List ℕ → Outcome → Outcome
@@ -25,6 +31,12 @@ outcome_of_stores groups active (ends.StoreFault k) = ends.StoreFault (first_sto
 outcome_of_stores groups active (ends.Damaged e id k x) =
     ends.Damaged e id (first_store groups k + slice_index active k) x
 outcome_of_stores groups active other = other
+
+-- the same of a refusal
+abbrev pub refused_of_stores : List (List Location) → List ℕ → Refused → Refused
+refused_of_stores groups active (refused.StoreFault k) = refused.StoreFault (first_store groups k)
+refused_of_stores groups active (refused.Damaged k x) = refused.Damaged (first_store groups k + slice_index active k) x
+refused_of_stores groups active other = other
 
 -- the same of an answer
 abbrev pub answer_of_stores : List (List Location) → List ℕ → Result Unit Outcome → Result Unit Outcome

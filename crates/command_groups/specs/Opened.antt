@@ -1,16 +1,17 @@
 -- Groups of stores that were opened, and how they are given back. L is the type of a store's folder, D that of its
 -- dialer, and K that of its connections.
-use Rattle.std.specs.Prelude.{◌≡◌, ◌++◌, ℕ, ◌<◌, List, [], ◌∷◌, length, map, Option, IfSome}
+use Rattle.std.specs.Prelude.{◌≡◌, ◌++◌, ℕ, ◌<◌, List, [], ◌∷◌, length, map, Option, IfSome, Bool, false}
 use Rattle.std.specs.List.{All, fold}
 use Rattle.command_groups.specs.Groups.{stores_of}
-use Rattle.command_steps.specs.AnyStores.{IsGiven, IsUnused, location_in, source_faults, source_files, with_those}
+use Rattle.command_steps.specs.AnyStores.{IsGiven, IsUnused, chunks_in, location_in, source_faults, source_files}
+use Rattle.command_steps.specs.AnyStores.{with_those}
 use Rattle.command_steps.specs.Sources.{IsThere, Storage, location_files}
 use Rattle.command_steps.specs.declared.any_store.AnyStore.{AnyStore}
 use Rattle.command_words.specs.declared.command.Location.{Location}
 use Rattle.dsy_base.specs.Links.{DialState, Traffic}
 use Rattle.dsy_base.specs.Maps.{Map}
 use Rattle.dsy_base.specs.declared.look.Look.{Ghosts as LookWords}
-use Rattle.store_group.specs.Groups.{CountsFailures, Grouped, of_one}
+use Rattle.store_group.specs.Groups.{CountsFailures, Grouped, group_folder, group_holds}
 
 -- the words that name the stores of a group
 abbrev pub locations_in : {L D K : Type 0} → (L → List ℕ) → Grouped (AnyStore L D K) → List Location
@@ -25,10 +26,16 @@ abbrev pub files_in : {L D K : Type 0} → (L → Option (Map (List ℕ))) → G
     → List (Option (Map (List ℕ)))
 files_in files g = map (source_files files) g.stores
 
--- what the group tells of its files: those of its folder, where it is one folder
-abbrev pub told_files : {L D K : Type 0} → (L → Option (Map (List ℕ))) → Grouped (AnyStore L D K)
+-- what the group tells of its files, by whether folders never fail: those of its folder, where it is one folder, or
+-- those of the first of its folders while that alone is asked
+abbrev pub told_files : {L D K : Type 0} → (sure : Bool) → (L → Option (Map (List ℕ))) → Grouped (AnyStore L D K)
     → Option (Map (List ℕ))
-told_files files g = of_one (source_files files) g.stores
+told_files sure files g = group_folder false sure (chunks_in files) (source_files files) g
+
+-- the chunks that it holds, where it tells them
+abbrev pub told_chunks : {L D K : Type 0} → (sure : Bool) → (L → Option (Map (List ℕ))) → Grouped (AnyStore L D K)
+    → Option (Map (List ℕ))
+told_chunks sure files g = group_holds false sure (chunks_in files) g
 
 -- a group that was just made: its first store is active, none has failed, and a call that fails is made so often again
 pub record IsFresh {S : Type 0} (counted : S → ℕ) (again : ℕ) (g : Grouped S) : Type 0 where

@@ -1,6 +1,8 @@
 -- What contracts see of a store of a command. L is the type of its folder, D that of its dialer, and K that of
 -- its connections.
 use Rattle.std.specs.Prelude.{◌≡◌, ◌++◌, ◌≤◌, ℕ, List, [], ◌∷◌, length, Option, Some, None, IfSome, IsSome}
+use Rattle.std.specs.Prelude.{Bool, IsTrue}
+use Rattle.std.proofs.lemmas.Bool.{false≢true}
 use Rattle.std.specs.Map.{count_at}
 use Rattle.std.specs.Option.{option_map}
 use Rattle.chunk_store.specs.Asks.{Sent, sends_nothing}
@@ -115,3 +117,10 @@ pub unasked_any : {L D K : Type 0} (files : L → Option (Map (List ℕ))) (m n 
     → IfSome (chunks_in files s) (λ _. (q : List ℕ) → (asked_in m state s q ≡ 0) × (asked_in n state s q ≡ 0))
 unasked_any files m n state (stores.Folder l) = unasked_map (option_map chunks (files l))
 unasked_any files m n state (stores.Http r) = tt
+
+-- a store whose files are told is a folder, and counts no fault where folders never fail
+pub steady_any : {L D K : Type 0} (files : L → Option (Map (List ℕ))) (faults : L → ℕ) (state : D → DialState)
+    (sure : Bool) → ((l : L) → IsTrue sure → faults l ≡ 0) → (s : AnyStore L D K) → IsTrue sure
+    → IsSome (chunks_in files s) → source_faults faults state s ≡ 0
+steady_any files faults state sure none (stores.Folder l) t told = none l t
+steady_any files faults state sure none (stores.Http r) t told = absurd (false≢true told)

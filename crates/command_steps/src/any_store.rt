@@ -22,7 +22,8 @@ impl<L: Look, D: Dial> Store for AnyStore<L, D> {
     ghost use Rattle.std.specs.Prelude.{false, true};
     ghost use Rattle.std.proofs.Common.{rules};
     ghost use Rattle.command_steps.specs.AnyStores.{chunks_in, source_files, place_in, source_faults, said_in};
-    ghost use Rattle.command_steps.specs.AnyStores.{asked_in, lies_any, says_any, source_sent, unasked_any};
+    ghost use Rattle.command_steps.specs.AnyStores.{asked_in, lies_any, says_any, source_sent, steady_any};
+    ghost use Rattle.command_steps.specs.AnyStores.{unasked_any};
     ghost use Rattle.http_wire.specs.declared.reply.Method.TheVariants as methods;
 
     ghost holds = { chunks_in L.files };
@@ -44,6 +45,8 @@ impl<L: Look, D: Dial> Store for AnyStore<L, D> {
     ghost tells = { false };
 
     ghost never_fails = { false };
+
+    ghost told_never_fail = { L.never_fails };
 
     ghost may_lack_memory = { true };
 
@@ -70,6 +73,8 @@ impl<L: Look, D: Dial> Store for AnyStore<L, D> {
     ghost told = { Prim.search rules };
 
     ghost sure = { Prim.search rules };
+
+    ghost steady = { steady_any L.files L.faults D.state L.never_fails L.sure };
 }
 
 impl<F: Folder, D: Dial> StoreWrite for AnyStore<F, D> {

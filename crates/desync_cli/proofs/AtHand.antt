@@ -38,7 +38,6 @@ use Rattle.desync_cli.proofs.Fair.{begun, if_any, if_some}
 use Rattle.command_groups.specs.Groups.{stores_of}
 use Rattle.desync_cli.proofs.Alone.{alone_lacked}
 use Rattle.desync_cli.proofs.Grouped.{AreAlone}
-use Rattle.extract_command.specs.declared.stores.Stores.{Stores}
 use Rattle.desync_cli.specs.AtHand.{EndsAtHand, StoreGivesEntry, IsAtHand, ListsOneSize, NeedsNoServer, into, near}
 use Rattle.command_line.specs.CommandLine.{command_line}
 use Rattle.command_words.specs.declared.usage.WordsFault.{WordsFault}
@@ -49,7 +48,7 @@ use Rattle.dsy_base.specs.Links.{DialState}
 use Rattle.dsy_base.specs.Maps.{Map, at_name}
 use Rattle.extract_plan.specs.Places.{seed_item_limit}
 use Rattle.extract_command.proofs.Wrote.{wrote_on}
-use Rattle.extract_command.specs.Extract.{Assembled, CacheFilled, CacheGrows, CacheLacksEntry, ExtractEnds, FillsCache, HadFrom, ImageMade, Into, IsLacking, KeepsIn, NeverFail, NotRenamed, OutMade, Renamed, Seeds, Told, WhereFolders, beside, folder_of, in_place, never_fail, temporary_out}
+use Rattle.extract_command.specs.Extract.{Assembled, CacheFilled, CacheGrows, CacheLacksEntry, ExtractEnds, ExtractStores, FillsCache, HadFrom, ImageMade, Into, IsLacking, KeepsIn, NeverFail, NotRenamed, OutMade, Renamed, Seeds, Told, WhereFolders, beside, folder_of, in_place, never_fail, temporary_out}
 use Rattle.store_chain.specs.Refusals.{HasShown, Lacks}
 use Rattle.store_chain.specs.Queries.{ShowsElse}
 use Rattle.store_chain.specs.declared.refused.Refused.{Refused}
@@ -72,7 +71,7 @@ read_climbs d e r = record { files = r.counts; folders = r.folder_counts }
 pub wrote_climbs : (d e : Disk) → Writes d e → Climbs d e
 wrote_climbs d e r = record { files = r.counts; folders = r.folder_counts }
 
-pub filled_climbs : (stores : Stores) (cache : Option (List ℕ)) (l : Listing) (d e : Disk) → FillsCache stores cache l d e → Climbs d e
+pub filled_climbs : (stores : ExtractStores) (cache : Option (List ℕ)) (l : Listing) (d e : Disk) → FillsCache stores cache l d e → Climbs d e
 filled_climbs stores cache l d e r = record { files = r.counts; folders = r.folder_counts }
 
 -- nothing failed between
@@ -192,7 +191,7 @@ from_told d e cache P b n is y tells h = go d.files d.folders e.files is y tells
       (a, sym at, h.0, subst (λ (x : Map (List ℕ)). P x a n h.0) one (subst (λ (x : Map (Map (List ℕ))). P c a x h.0) two h.2))
 
 module _ (w v : Storage) (none : NoneRose w.disk v.disk) (b : Map (List ℕ)) (n : Map (Map (List ℕ))) (files : w.disk.files ≡ Some b) (folders : w.disk.folders ≡ Some n) (tells : is_some v.disk.files ≡ is_some w.disk.files)
-    (stores : Stores) (alone : AreAlone stores.groups) (cache : Option (List ℕ)) (out : Into) (l : Listing) (x : Seeds) where
+    (stores : ExtractStores) (alone : AreAlone stores.groups) (cache : Option (List ℕ)) (out : Into) (l : Listing) (x : Seeds) where
   module _ (k : ℕ) (listed : k < count_of l) (id : ChunkId) (id_is : id.0 ≡ id_of l k) where
     abbrev Gives : Location → Type 0
     Gives = StoreGivesEntry n l k
@@ -295,7 +294,7 @@ module _ (w v : Storage) (none : NoneRose w.disk v.disk) (b : Map (List ℕ)) (n
 pub self_climbs : (d : Disk) → Climbs d d
 self_climbs d = record { files = λ q. omega arith; folders = λ q. omega arith }
 
-module _ (sure : NeverFail) (stores : Stores) (alone : AreAlone stores.groups) (cache : Option (List ℕ)) (out : List ℕ) (l : Listing) (x : Seeds) (w : Disk) (v : World) (quiet : DiskQuiet w v.disk) (b : Map (List ℕ)) (n : Map (Map (List ℕ))) (one : IsSome cache → ListsOneSize l)
+module _ (sure : NeverFail) (stores : ExtractStores) (alone : AreAlone stores.groups) (cache : Option (List ℕ)) (out : List ℕ) (l : Listing) (x : Seeds) (w : Disk) (v : World) (quiet : DiskQuiet w v.disk) (b : Map (List ℕ)) (n : Map (Map (List ℕ))) (one : IsSome cache → ListsOneSize l)
     (u : World) (files : u.disk.files ≡ Some b) (folders : u.disk.folders ≡ Some n) (so_far : Climbs w u.disk) where
   image_at_hand : (i : Into) (c : Disk) → Climbs c v.disk → ((k : ℕ) → k < count_of l → IsAtHand b n i l x (near cache (stores_of stores.groups)) k) → (o : Outcome) → ImageMade sure stores cache i l x (storage u.disk u.dial) (Err o) (storage c v.dial) → o ≡ ends.Memory
   image_at_hand i c later hand o h =
@@ -332,7 +331,7 @@ module _ (sure : NeverFail) (stores : Stores) (alone : AreAlone stores.groups) (
 
 -- ---- the command
 
-module _ (sure : NeverFail) (stores : Stores) (cache : Option (List ℕ)) (seeds : List (List ℕ)) (place : Bool) (index out : List ℕ) (w v : World) (quiet : DiskQuiet w.disk v.disk) (b : Map (List ℕ)) (n : Map (Map (List ℕ))) (files : w.disk.files ≡ Some b) (folders : w.disk.folders ≡ Some n)
+module _ (sure : NeverFail) (stores : ExtractStores) (cache : Option (List ℕ)) (seeds : List (List ℕ)) (place : Bool) (index out : List ℕ) (w v : World) (quiet : DiskQuiet w.disk v.disk) (b : Map (List ℕ)) (n : Map (Map (List ℕ))) (files : w.disk.files ≡ Some b) (folders : w.disk.folders ≡ Some n)
     (no : NeedsNoServer b n stores.groups cache seeds (into place out) index) where
   abbrev seeds_of : List Listing → Seeds
   seeds_of ls = record { images = map image_name seeds; listings = ls }
@@ -420,7 +419,7 @@ refused_at_hand sure (commands.Extract stores retries seeds cache place workers 
   go : (f : Option (Map (List ℕ))) (g : Option (Map (Map (List ℕ)))) → w.disk.files ≡ f → w.disk.folders ≡ g → IfSome f (λ b. IfSome g (λ n. NeedsNoServer b n stores cache seeds (into place target) index → (o ≡ ends.Done) ⊎ (o ≡ ends.Memory)))
   go None g is y = tt
   go (Some b) None is y = tt
-  go (Some b) (Some n) is y = λ no. inr (extracted_at_hand (never_fail sure.target k.never_fails) (record { groups = stores; retries = retries }) cache seeds place index target w v quiet b n is y no o h)
+  go (Some b) (Some n) is y = λ no. inr (extracted_at_hand (never_fail sure.target k.never_fails) (record { groups = stores; retries = retries; sure = sure.looks.never_fail }) cache seeds place index target w v quiet b n is y no o h)
 refused_at_hand sure other k w v o quiet h = tt
 
 words_refused : (words : List (List ℕ)) (d : Disk) (o : Outcome) → NoCommand words o → IfSome (command_of words) (λ c. EndsAtHand c d o)

@@ -1,5 +1,5 @@
 -- What `cache` has achieved where it is done.
-use Rattle.std.proofs.Common.{◌≡◌, ◌⊎◌, ℕ, arith, suc, List, [], ◌∷◌, true, false, Option, Some, None, IfSome, IsSome, is_some, Ok, refl, sym, subst, ap, ◌∙◌, inl, inr, unwrap_or}
+use Rattle.std.proofs.Common.{Bool, ◌≡◌, ◌⊎◌, ℕ, arith, suc, List, [], ◌∷◌, true, false, Option, Some, None, IfSome, IsSome, is_some, Ok, refl, sym, subst, ap, ◌∙◌, inl, inr, unwrap_or}
 use Rattle.std.proofs.lemmas.Option.{same_Some}
 use Rattle.std.specs.List.{AllZip, Any, Contains}
 use Rattle.std.specs.Option.{option_map}
@@ -93,16 +93,16 @@ was_there (Some m) cache held there was = go (m cache) refl there where
   go None is some = absurd (true_false (sym some))
   go (Some f) is some = (f, is, sym was ∙ is)
 
-pub cached : (groups : List (List Location)) (retries : ℕ) (cache : List ℕ) (most : ℕ) (indexes : List (List ℕ)) (w v : World) → CacheEnds groups retries cache most indexes w (Ok tt) v
+pub cached : (looks : Bool) (groups : List (List Location)) (retries : ℕ) (cache : List ℕ) (most : ℕ) (indexes : List (List ℕ)) (w v : World) → CacheEnds looks groups retries cache most indexes w (Ok tt) v
     → IfSome w.disk.folders (λ f. IfSome v.disk.folders (λ g. IsCached (IndexSpells (storage_of w) (storage_of v)) f g cache indexes))
-cached groups retries cache most indexes w v h =
+cached looks groups retries cache most indexes w v h =
     let reached = h.then in
     let filled = reached.then.0 in
     let opened = h.did.0.1 in
     let looked = reached.did.0.1 in
     let folders = looked.folders ∙ opened.folders in
     let u = storage reached.disk reached.dial in
-    let over = of_command retries u (storage_of v) groups cache in
+    let over = of_command looks retries u (storage_of v) groups cache in
     let part : IsPart (storage_of w) u (storage_of v) (storage_of v) = record {
       files = looked.files ∙ opened.files;
       before = dials_same w.dial reached.dial (reached.did.1 ∙ h.did.1);

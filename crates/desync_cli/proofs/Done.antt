@@ -19,10 +19,10 @@ use Rattle.desync_cli.proofs.Verified.{verified}
 
 achieves : (sure : SureTypes) (k : Heard) (c : Command) (w v : World) → is_some w.disk.files ≡ is_some w.disk.folders → CommandEnds sure k c w (Ok tt) v → Achieves sure k c w v
 achieves sure k (commands.Make store sizes workers digest index image) w v told h = made store digest sizes index image w v told h
-achieves sure k (commands.Extract stores retries seeds cache in_place workers index target) w v told h = extracted (never_fail sure.target k.never_fails) (record { groups = stores; retries = retries }) cache seeds in_place index target w v told h
+achieves sure k (commands.Extract stores retries seeds cache in_place workers index target) w v told h = extracted (never_fail sure.target k.never_fails) (record { groups = stores; retries = retries; sure = sure.looks.never_fail }) cache seeds in_place index target w v told h
 achieves sure k (commands.VerifyIndex workers index image) w v told h = verified index image w v h
 achieves sure k (commands.Chop store workers index image) w v told h = chopped store index image w v h
-achieves sure k (commands.Cache stores retries cache workers indexes) w v told h = cached stores retries cache workers indexes w v h
+achieves sure k (commands.Cache stores retries cache workers indexes) w v told h = cached sure.looks.never_fail stores retries cache workers indexes w v h
 achieves sure k (commands.Verify store repair workers digest) w v told h = verified_store digest store repair w v h
 achieves sure k (commands.Prune store indexes) w v told h = pruned_to store indexes w v h
 achieves sure k other w v told h = h

@@ -1,5 +1,5 @@
 -- What `cache` answers and leaves where nothing fails.
-use Rattle.std.proofs.Common.{ap, arith, zero, suc, ◌⊎◌, ◌≡◌, ◌∙◌, ℕ, ◌<◌, List, [], ◌∷◌, map, Option, Some, IfSome, IsSomeAnd, IsTrue, refl, subst, sym, inl, inr, Result, Ok, Err}
+use Rattle.std.proofs.Common.{Bool, ap, arith, zero, suc, ◌⊎◌, ◌≡◌, ◌∙◌, ℕ, ◌<◌, List, [], ◌∷◌, map, Option, Some, IfSome, IsSomeAnd, IsTrue, refl, subst, sym, inl, inr, Result, Ok, Err}
 use Rattle.std.proofs.lemmas.Option.{same_Some}
 use Rattle.std.specs.List.{Any, Contains}
 use Rattle.std.specs.Option.{option_map}
@@ -23,11 +23,11 @@ use Rattle.command_words.specs.declared.command.Location.{Location}
 use Rattle.command_worlds.specs.Steps.{◌>>=◌, outcome_of}
 use Rattle.command_worlds.specs.Worlds.{DiskQuiet, OnDisk, World}
 use Rattle.desync_cli.proofs.Cached.{any_first, any_later, over_all}
-use Rattle.command_groups.specs.Groups.{group_files, stores_of}
-use Rattle.desync_cli.proofs.Grouped.{AreAlone, alone_files}
+use Rattle.command_groups.specs.Groups.{first_store, group_files, stores_of}
+use Rattle.desync_cli.proofs.Grouped.{AreTelling, tells_first}
 use Rattle.desync_cli.proofs.Readings.{EndsSo, IsAt, IsQuiet, at_first, both_files, cache_so, file_unrisen, index_there, index_unread, some_not, stores_so}
 use Rattle.desync_cli.specs.Contents.{Contents, Ending, HasContents, folder_at, folders_at, with_folder}
-use Rattle.desync_cli.specs.Exact.{Caches, FillsInOrder, GainsListed, GiveOneKind, IsFirstLacking, IsListedAmong, NamesLacking}
+use Rattle.desync_cli.specs.Exact.{Caches, FillsInOrder, GainsListed, GiveOneKind, IsFirstLacking, IsListedAmong, NamesLacking, firsts_of}
 use Rattle.dsy_base.specs.Maps.{Map, at_name}
 use Rattle.store_chain.specs.declared.refused.Refused.{Refused}
 use Rattle.store_chain.specs.declared.refused.Refused.TheVariants as refused
@@ -116,9 +116,9 @@ fault_not_done (fills.StoreFault s) same = absurd (cc)
 fault_not_done fills.CacheFault same = absurd (cc)
 fault_not_done fills.Memory same = absurd (cc)
 
-module _ (x : Contents) (w u v : World) (at : IsAt x w u) (quiet : IsQuiet w v) (groups : List (List Location)) (retries : ℕ) (fs : List (Map (List ℕ))) (are : map (group_files x.folders) groups ≡ map Some fs) (cache : List ℕ) (indexes_all : List (List ℕ)) (files : IsTrue (are_files indexes_all)) (f : Map (List ℕ)) where
+module _ (x : Contents) (w u v : World) (at : IsAt x w u) (quiet : IsQuiet w v) (sure : Bool) (groups : List (List Location)) (retries : ℕ) (fs : List (Map (List ℕ))) (are : map (group_files sure x.folders) groups ≡ map Some fs) (cache : List ℕ) (indexes_all : List (List ℕ)) (files : IsTrue (are_files indexes_all)) (f : Map (List ℕ)) where
   abbrev over : Evidence
-  over = of_command retries (storage_of u) (storage_of v) groups cache
+  over = of_command sure retries (storage_of u) (storage_of v) groups cache
 
   abbrev Listed : DigestKind → List ℕ → ℕ → Type 0
   Listed = IsListedAmong x.files indexes_all
@@ -130,7 +130,7 @@ module _ (x : Contents) (w u v : World) (at : IsAt x w u) (quiet : IsQuiet w v) 
   IsSome_of indexes = (p : List ℕ) → Contains indexes p → Contains indexes_all p
 
   holding : over.holds fs
-  holding = subst (λ y. IsSomeAnd y (λ n. map (group_files n) groups ≡ map Some fs)) (sym at.has.folders) are
+  holding = subst (λ y. IsSomeAnd y (λ n. map (group_files sure n) groups ≡ map Some fs)) (sym at.has.folders) are
 
   file_here : (q : List ℕ) (indexes : List (List ℕ)) → IsSome_of (q ∷ indexes) → IsTrue (is_file q)
   file_here q indexes some = file_among indexes_all files q (some q (among_first q indexes))
@@ -182,7 +182,7 @@ module _ (x : Contents) (w u v : World) (at : IsAt x w u) (quiet : IsQuiet w v) 
       one_here : GiveOneSize (ListsSize l) (kind_of l) (chunks z ∷ map chunks fs)
       one_here id n m a b c d = sizes (kind_of l) id n m (lists id n a) (lists id m b) (all_gave Listed (map chunks fs) f z before (kind_of l) id n c) (all_gave Listed (map chunks fs) f z before (kind_of l) id m d)
 
-      lacking : (k n : ℕ) (id : ChunkId) (r : Refused) (y : Option (Map (List ℕ))) → IsFirstLost l (chunks z) (map chunks fs) k → k ≡ n → n < count_of l → IsNotHad over l y n id r → IsFirstLacking l (Given l) (map chunks fs) k id r
+      lacking : (k n : ℕ) (id : ChunkId) (r : Refused) (y : Option (Map (List ℕ))) → IsFirstLost l (chunks z) (map chunks fs) k → k ≡ n → n < count_of l → IsNotHad over l y n id r → IsFirstLacking (first_store groups) l (Given l) (map chunks fs) k id r
       lacking k n id r y lost same listed had =
           let here : k < count_of l = subst (λ (j : ℕ). j < count_of l) (sym same) listed in
           let so : IsNotHad over l y k id r = subst (λ (j : ℕ). IsNotHad over l y j id r) (sym same) had in
@@ -193,7 +193,7 @@ module _ (x : Contents) (w u v : World) (at : IsAt x w u) (quiet : IsQuiet w v) 
             lacks = so.lacks fs holding;
           }
 
-      ended_by : (fault : FillFault) (y : Option (Map (List ℕ))) → FillsBy l (chunks z) (map chunks fs) (Err fault) → EndsFilling over l fault (Some z) y → (outcome_of_fill fault ≡ ends.Memory) ⊎ NamesLacking l (Given l) (map chunks fs) (outcome_of_fill fault)
+      ended_by : (fault : FillFault) (y : Option (Map (List ℕ))) → FillsBy l (chunks z) (map chunks fs) (Err fault) → EndsFilling over l fault (Some z) y → (outcome_of_fill fault ≡ ends.Memory) ⊎ NamesLacking (first_store groups) l (Given l) (map chunks fs) (outcome_of_fill fault)
       ended_by (fills.Missing k id) y by (inl none) = absurd (cc)
       ended_by (fills.Missing k id) y by (inr s) = inr (lacking k s.entry id refused.Missing y by s.tells.0 s.listed s.tells.1)
       ended_by (fills.Damaged k id n c) y by (inl none) = absurd (cc)
@@ -207,12 +207,12 @@ module _ (x : Contents) (w u v : World) (at : IsAt x w u) (quiet : IsQuiet w v) 
 
     -- the rest of them
     abbrev Rest : List (List ℕ) → Listing → Ending
-    Rest indexes l x o y = NamesLacking l (Given l) (map chunks fs) o ⊎ (((i : ℕ) → i < count_of l → Given l i) × FillsInOrder (chunks f) (map chunks fs) indexes x o y)
+    Rest indexes l x o y = NamesLacking (first_store groups) l (Given l) (map chunks fs) o ⊎ (((i : ℕ) → i < count_of l → Given l i) × FillsInOrder (first_store groups) (chunks f) (map chunks fs) indexes x o y)
 
     all_given : (q : List ℕ) (indexes : List (List ℕ)) (l : Listing) (some : IsSome_of (q ∷ indexes)) (is : IsListed x.files q l) (z : Map (List ℕ)) → Gains z → (c : Option (Map (List ℕ))) → IndexFilled over l (Some z) c (Ok tt) → (i : ℕ) → i < count_of l → Given l i
     all_given q indexes l some is z before c filled i lt = given_first l (among q indexes l some is) z before i (exactly l (among q indexes l some is) z before c (Ok tt) filled i lt)
 
-    all_ordered : (indexes : List (List ℕ)) → IsSome_of indexes → (z : Map (List ℕ)) → Gains z → (y : Option (Map (List ℕ))) → AllFilled over (storage_of u) (storage_of v) indexes (Some z) y → FillsInOrder (chunks f) (map chunks fs) indexes x ends.Done x
+    all_ordered : (indexes : List (List ℕ)) → IsSome_of indexes → (z : Map (List ℕ)) → Gains z → (y : Option (Map (List ℕ))) → AllFilled over (storage_of u) (storage_of v) indexes (Some z) y → FillsInOrder (first_store groups) (chunks f) (map chunks fs) indexes x ends.Done x
     all_ordered [] some z before y h = (refl, refl)
     all_ordered (q ∷ indexes) some z before y (l, listed, c, filled, rest) =
         let is = listed_here q l (file_here q indexes some) listed in
@@ -222,7 +222,7 @@ module _ (x : Contents) (w u v : World) (at : IsAt x w u) (quiet : IsQuiet w v) 
           all_ordered indexes (λ p there. some p (among_later q p indexes there)) g.0 g.2 y (subst (λ o. AllFilled over (storage_of u) (storage_of v) indexes o y) g.1 rest),
         ))
 
-    some_ordered : (indexes : List (List ℕ)) → IsSome_of indexes → (z : Map (List ℕ)) → Gains z → (y : Option (Map (List ℕ))) (o : Outcome) → NotFilled over (storage_of u) (storage_of v) indexes (Some z) y o → (o ≡ ends.Memory) ⊎ FillsInOrder (chunks f) (map chunks fs) indexes x o x
+    some_ordered : (indexes : List (List ℕ)) → IsSome_of indexes → (z : Map (List ℕ)) → Gains z → (y : Option (Map (List ℕ))) (o : Outcome) → NotFilled over (storage_of u) (storage_of v) indexes (Some z) y o → (o ≡ ends.Memory) ⊎ FillsInOrder (first_store groups) (chunks f) (map chunks fs) indexes x o x
     some_ordered [] some z before y o h = absurd h
     some_ordered (q ∷ indexes) some z before y o (inl h) = elim (index_unread x u.disk v.disk at.has.files (file_unrisen x w u v at quiet) q o (not_spelled_file q (storage_of u) (storage_of v) o (file_here q indexes some) h.0)) [ inl none ↦ inl none | inr so ↦ inr (so (Rest indexes)) ]
     some_ordered (q ∷ indexes) some z before y o (inr (l, listed, inl (fault, same, filled))) =
@@ -230,7 +230,7 @@ module _ (x : Contents) (w u v : World) (at : IsAt x w u) (quiet : IsQuiet w v) 
         let lists = among q indexes l some is in
         elim (ended_by l lists z before fault y (exactly l lists z before y (Err fault) filled) filled.order) [
           | inl none ↦ inl (same ∙ none)
-          | inr names ↦ inr (index_there x q l (Rest indexes) o x is (inl (subst (NamesLacking l (Given l) (map chunks fs)) (sym same) names)))
+          | inr names ↦ inr (index_there x q l (Rest indexes) o x is (inl (subst (NamesLacking (first_store groups) l (Given l) (map chunks fs)) (sym same) names)))
         ]
     some_ordered (q ∷ indexes) some z before y o (inr (l, listed, inr (c, filled, rest))) =
         let is = listed_here q l (file_here q indexes some) listed in
@@ -244,9 +244,9 @@ module _ (x : Contents) (w u v : World) (at : IsAt x w u) (quiet : IsQuiet w v) 
     held_is : (o : Option (Map (List ℕ))) → IfSome u.disk.folders (λ m. m cache ≡ o) → o ≡ Some f
     held_is o was = let h : x.folders cache ≡ o = subst (λ y. IfSome y (λ m. m cache ≡ o)) at.has.folders was in sym h ∙ there
 
-    filled_so : (r : Result Unit Outcome) → OnStorage (IndexesFilled groups retries cache most indexes_all) u r v → EndsSo x v (Caches (map chunks fs) cache indexes_all f) (outcome_of r)
+    filled_so : (r : Result Unit Outcome) → OnStorage (IndexesFilled sure groups retries cache most indexes_all) u r v → EndsSo x v (Caches (first_store groups) (map chunks fs) cache indexes_all f) (outcome_of r)
     filled_so r h = go r h.0.filled where
-      b : FilledBetween groups retries cache most indexes_all (storage_of u) (storage_of v) r
+      b : FilledBetween sure groups retries cache most indexes_all (storage_of u) (storage_of v) r
       b = h.0
 
       was : b.held ≡ Some f
@@ -265,7 +265,7 @@ module _ (x : Contents) (w u v : World) (at : IsAt x w u) (quiet : IsQuiet w v) 
       is_cached : (g : Map (List ℕ)) → b.now ≡ Some g → AllFilled over (storage_of u) (storage_of v) indexes_all b.held b.now → IsCached (IsListed x.files) x.folders (at_name x.folders cache (Some g)) cache indexes_all
       is_cached g is filled = over_all over (storage_of u) (storage_of v) (IsListed x.files) cache indexes_all (Some x.folders) (Some (at_name x.folders cache (Some g))) b.held b.now (λ q has l. listed_here q l (file_among indexes_all files q has)) (f, there, was) (ap (λ o. Some (at_name x.folders cache o)) (sym is)) filled
 
-      go : (r : Result Unit Outcome) → FillsEach over (storage_of u) (storage_of v) indexes_all b.held b.now r → EndsSo x v (Caches (map chunks fs) cache indexes_all f) (outcome_of r)
+      go : (r : Result Unit Outcome) → FillsEach over (storage_of u) (storage_of v) indexes_all b.held b.now r → EndsSo x v (Caches (first_store groups) (map chunks fs) cache indexes_all f) (outcome_of r)
       go (Ok _) filled =
           let from : AllFilled over (storage_of u) (storage_of v) indexes_all (Some f) b.now = subst (λ o. AllFilled over (storage_of u) (storage_of v) indexes_all o b.now) was filled in
           let g = all_grown indexes_all every f (gains_none Listed (map chunks fs) f) b.now from in
@@ -295,10 +295,10 @@ module _ (x : Contents) (w u v : World) (at : IsAt x w u) (quiet : IsQuiet w v) 
       ]
 
 module _ (x : Contents) (w v : World) (quiet : IsQuiet w v) where
-  pub caches_so : (groups : List (List Location)) (retries : ℕ) → AreAlone groups → (cache : List ℕ) (most : ℕ) (indexes : List (List ℕ)) → IsTrue (are_folders (stores_of groups)) → IsTrue (are_files indexes) → HasContents w x → (r : Result Unit Outcome) → CacheEnds groups retries cache most indexes w r v
-      → EndsSo x v (folders_at (stores_of groups) (λ fs. folder_at cache (Caches (map chunks fs) cache indexes))) (outcome_of r)
-  caches_so groups retries alone cache most indexes all files has = stores_so x w v quiet (stores_of groups) all (λ fs. folder_at cache (Caches (map chunks fs) cache indexes))
-      (λ _. OnDisk (CacheOpened (stores_of groups) (Some cache)) >>= (λ _. OnStorage (IndexesFilled groups retries cache most indexes)))
-      (λ fs e at are. cache_so x w v quiet (stores_of groups) cache (Caches (map chunks fs) cache indexes) (λ _. OnStorage (IndexesFilled groups retries cache most indexes))
-      (λ f u after there. filled_so x w u v after quiet groups retries fs (alone_files x.folders groups alone ∙ are) cache indexes files f there most) e at)
+  pub caches_so : (sure : Bool) (groups : List (List Location)) (retries : ℕ) → AreTelling sure groups → (cache : List ℕ) (most : ℕ) (indexes : List (List ℕ)) → IsTrue (are_folders (stores_of groups)) → IsTrue (are_files indexes) → HasContents w x → (r : Result Unit Outcome) → CacheEnds sure groups retries cache most indexes w r v
+      → EndsSo x v (folders_at (stores_of groups) (λ fs. folder_at cache (Caches (first_store groups) (map chunks (firsts_of groups fs)) cache indexes))) (outcome_of r)
+  caches_so sure groups retries telling cache most indexes all files has = stores_so x w v quiet (stores_of groups) all (λ fs. folder_at cache (Caches (first_store groups) (map chunks (firsts_of groups fs)) cache indexes))
+      (λ _. OnDisk (CacheOpened (stores_of groups) (Some cache)) >>= (λ _. OnStorage (IndexesFilled sure groups retries cache most indexes)))
+      (λ fs e at are. cache_so x w v quiet (stores_of groups) cache (Caches (first_store groups) (map chunks (firsts_of groups fs)) cache indexes) (λ _. OnStorage (IndexesFilled sure groups retries cache most indexes))
+      (λ f u after there. filled_so x w u v after quiet sure groups retries (firsts_of groups fs) (tells_first sure x.folders groups fs telling are) cache indexes files f there most) e at)
       w (at_first x w has)

@@ -25,19 +25,18 @@ use Rattle.command_worlds.specs.Steps.{◌>>=◌, outcome_of}
 use Rattle.command_worlds.specs.Worlds.{DiskQuiet, FileRose, OnDisk, World, world}
 use Rattle.desync_cli.proofs.AtHand.{Climbs, NoneRose, climbs_on, filled_climbs, none_rose, self_climbs, wrote_climbs}
 use Rattle.desync_cli.proofs.ExactCache.{is_memory}
-use Rattle.command_groups.specs.Groups.{group_files, stores_of}
-use Rattle.desync_cli.proofs.Grouped.{AreAlone, alone_files, none_lacking}
-use Rattle.extract_command.specs.declared.stores.Stores.{Stores}
+use Rattle.command_groups.specs.Groups.{first_store, group_files, stores_of}
+use Rattle.desync_cli.proofs.Grouped.{AreTelling, none_lacking, tells_first}
 use Rattle.desync_cli.proofs.Readings.{EndsSo, IsAt, IsQuiet, any_cache_so, at_first, index_so, indexes_so, some_not, stores_so}
 use Rattle.desync_cli.specs.AtHand.{into}
 use Rattle.desync_cli.specs.Contents.{Contents, HasContents, folders_at, index_at, indexes_at}
-use Rattle.desync_cli.specs.Exact.{CacheGains, Extracts, GainsListed, IsFirstLacking, IsListedBy, NamesLacking, OutBecomes}
+use Rattle.desync_cli.specs.Exact.{CacheGains, Extracts, GainsListed, IsFirstLacking, IsListedBy, NamesLacking, OutBecomes, firsts_of}
 use Rattle.dsy_base.proofs.Counts.{at_same}
 use Rattle.dsy_base.specs.Disk.{Disk}
 use Rattle.dsy_base.specs.Links.{DialState}
 use Rattle.dsy_base.specs.Maps.{Map, at_name}
 use Rattle.extract_command.proofs.Wrote.{wrote_on}
-use Rattle.extract_command.specs.Extract.{AreFilled, Assembled, CacheFilled, CacheGrows, Cleared, Clearing, ExtractEnds, FillsCache, HadFrom, ImageMade, Into, IsCounted, NeverFail, NotRenamed, OutMade, Renamed, Seeds, StopsLacking, Told, Undisturbed, base_of, beside, folder_of, in_place, temporary_out}
+use Rattle.extract_command.specs.Extract.{AreFilled, Assembled, CacheFilled, CacheGrows, Cleared, Clearing, ExtractEnds, ExtractStores, FillsCache, HadFrom, ImageMade, Into, IsCounted, NeverFail, NotRenamed, OutMade, Renamed, Seeds, StopsLacking, Told, Undisturbed, base_of, beside, folder_of, in_place, temporary_out}
 use Rattle.store_chain.specs.declared.refused.Refused.{Refused}
 use Rattle.store_chain.specs.declared.refused.Refused.TheVariants as refused
 
@@ -65,7 +64,7 @@ quiet_between w d e v quiet a b = record {
   folders = λ q. let last = quiet.folders q in let first = a.folders q in let after = b.folders q in record { same = omega (arith, last.same, first, after); below = omega (arith, last.below, after) };
 }
 
-module _ (x : Contents) (w v u : World) (at : IsAt x w u) (quiet : IsQuiet w v) (stores : Stores) (alone : AreAlone stores.groups) (all : IsTrue (are_folders (stores_of stores.groups))) (fs : List (Map (List ℕ))) (are : map (group_files x.folders) stores.groups ≡ map Some fs)
+module _ (x : Contents) (w v u : World) (at : IsAt x w u) (quiet : IsQuiet w v) (stores : ExtractStores) (telling : AreTelling stores.sure stores.groups) (all : IsTrue (are_folders (stores_of stores.groups))) (fs : List (Map (List ℕ))) (are : map (group_files stores.sure x.folders) stores.groups ≡ map Some fs)
     (cache : Option (List ℕ)) (cs : List (Map (List ℕ))) (cached : map x.folders (folder_of cache) ≡ map Some cs) (l : Listing) (z : Seeds) where
   so_far : Climbs w.disk u.disk
   so_far = record { files = at.files; folders = at.folders }
@@ -86,8 +85,8 @@ module _ (x : Contents) (w v u : World) (at : IsAt x w u) (quiet : IsQuiet w v) 
 
   gains_so : (m : Map (Map (List ℕ))) → m ≡ x.folders → (f g : Map (List ℕ)) → CacheGrows l m stores f g → GainsListed (IsListedBy l) (map chunks fs) f g
   gains_so m same f g grows = record { held = held; strangers = grows.strangers } where
-    holds : map (group_files m) stores.groups ≡ map Some fs
-    holds = subst (λ n. map (group_files n) stores.groups ≡ map Some fs) (sym same) are
+    holds : map (group_files stores.sure m) stores.groups ≡ map Some fs
+    holds = subst (λ n. map (group_files stores.sure n) stores.groups ≡ map Some fs) (sym same) are
 
     held : (id : List ℕ) → (chunks g id ≡ chunks f id) ⊎ ((b : List ℕ) × (chunks g id ≡ Some b) × ((kind : DigestKind) × (n : ℕ) × IsListedBy l kind id n × IsChunk kind id n b) × Any (λ m. m id ≡ Some b) (map chunks fs))
     held id = elim (grows.held id) [
@@ -142,17 +141,17 @@ module _ (x : Contents) (w v u : World) (at : IsAt x w u) (quiet : IsQuiet w v) 
         undisturbed : Undisturbed u.disk e cache l cs fs
         undisturbed = (quiet_between w.disk u.disk e v.disk quiet.disk so_far later, one)
 
-        lacking_so : (n : ℕ) (id : ChunkId) (r : Refused) → StopsLacking (storage_of u) (storage e k) stores cache i l z n id r → Holds e × IsFirstLacking l Had (map chunks fs) n id r
+        lacking_so : (n : ℕ) (id : ChunkId) (r : Refused) → StopsLacking (storage_of u) (storage e k) stores cache i l z n id r → Holds e × IsFirstLacking (first_store stores.groups) l Had (map chunks fs) n id r
         lacking_so n id r h =
             let t = told_so e _ tells h in (
               record { image = t.2.0.0; size = t.2.0.1.1.size; filled = t.2.0.4 fs are undisturbed; is = t.1 ∙ ap Some t.2.0.1.0 },
               record { listed = t.2.1.listed; least = t.2.2 fs are undisturbed; id_is = t.2.1.id_is; lacks = t.2.1.lacks fs are },
             )
 
-        refused_so : (o : Outcome) → Assembled (storage_of u) (storage e k) stores cache i l z (Err o) → (o ≡ ends.Memory) ⊎ (Holds e × NamesLacking l Had (map chunks fs) o)
+        refused_so : (o : Outcome) → Assembled (storage_of u) (storage e k) stores cache i l z (Err o) → (o ≡ ends.Memory) ⊎ (Holds e × NamesLacking (first_store stores.groups) l Had (map chunks fs) o)
         refused_so (ends.Missing n id) h = inr (lacking_so n id refused.Missing h)
         refused_so (ends.Damaged n id s y) h = inr (lacking_so n id (refused.Damaged s y) h)
-        refused_so (ends.StoreFault s) h = absurd (none_lacking stores.retries (chunk_of (kind_of l) h.0.1 (size_of l h.0.0)) (storage_of u) (storage e k) unrisen.folders s stores.groups alone all h.0.4)
+        refused_so (ends.StoreFault s) h = absurd (none_lacking stores.retries (chunk_of (kind_of l) h.0.1 (size_of l h.0.0)) (storage_of u) (storage e k) unrisen.folders s stores.groups telling.have all h.0.4)
         refused_so ends.TargetFault h = absurd (unrisen.files i.name h.0)
         refused_so ends.Memory h = inl refl
         refused_so other h = absurd h
@@ -168,13 +167,13 @@ module _ (x : Contents) (w v u : World) (at : IsAt x w u) (quiet : IsQuiet w v) 
 
     -- what is answered, and what becomes of OUT
     record OutSo (place : Bool) (o : Outcome) : Type 0 where
-      answer : ((o ≡ ends.Done) × ((j : ℕ) → j < count_of l → Had (into place out) j)) ⊎ NamesLacking l (Had (into place out)) (map chunks fs) o
+      answer : ((o ≡ ends.Done) × ((j : ℕ) → j < count_of l → Had (into place out) j)) ⊎ NamesLacking (first_store stores.groups) l (Had (into place out)) (map chunks fs) o
       image : List ℕ
       size : length image ≡ image_length l
       filled : AreFilled l (Had (into place out)) (base_of x.files (into place out) l) image
       becomes : (a : Map (List ℕ)) → v.disk.files ≡ Some a → OutBecomes place out image o x.files a
 
-    ends_out : (place : Bool) (o : Outcome) (c : Disk) → v.out ≡ u.out → is_some v.disk.files ≡ is_some u.disk.files → FillsCache stores cache l u.disk c → v.disk.folders ≡ c.folders → (One → OutSo place o) → EndsSo x v (Extracts l z fs cs cache place out) o
+    ends_out : (place : Bool) (o : Outcome) (c : Disk) → v.out ≡ u.out → is_some v.disk.files ≡ is_some u.disk.files → FillsCache stores cache l u.disk c → v.disk.folders ≡ c.folders → (One → OutSo place o) → EndsSo x v (Extracts (first_store stores.groups) l z fs cs cache place out) o
     ends_out place o c same tells fills kept so =
         let a = some_not v.disk.files (tells ∙ ap is_some at.has.files) in
         let n = folders_so c fills.folders in
@@ -188,7 +187,7 @@ module _ (x : Contents) (w v u : World) (at : IsAt x w u) (quiet : IsQuiet w v) 
 
     -- in its place
 
-    made_in_place : (r : Result Unit Outcome) → OnStorage (ImageMade sure stores cache (in_place out) l z) u r v → EndsSo x v (Extracts l z fs cs cache true out) (outcome_of r)
+    made_in_place : (r : Result Unit Outcome) → OnStorage (ImageMade sure stores cache (in_place out) l z) u r v → EndsSo x v (Extracts (first_store stores.groups) l z fs cs cache true out) (outcome_of r)
     made_in_place (Ok _) h = ends_out true ends.Done v.disk h.1 h.0.2 h.0.1 refl (λ one.
         let t = made_so (in_place out) v.disk v.dial (self_climbs v.disk) h.0.2 h.0.0 in
         record { answer = inl (refl, t.1); image = t.0.image; size = t.0.size; filled = t.0.filled; becomes = λ a is. same_Some _ _ (sym is ∙ t.0.is) })
@@ -202,7 +201,7 @@ module _ (x : Contents) (w v u : World) (at : IsAt x w u) (quiet : IsQuiet w v) 
 
     -- by way of the temporary file
 
-    gone_as : (o : Outcome) (t : List ℕ) (a : Map (List ℕ)) → NamesLacking l (Had (beside out)) (map chunks fs) o → a ≡ at_name x.files tmp None → OutBecomes false out t o x.files a
+    gone_as : (o : Outcome) (t : List ℕ) (a : Map (List ℕ)) → NamesLacking (first_store stores.groups) l (Had (beside out)) (map chunks fs) o → a ≡ at_name x.files tmp None → OutBecomes false out t o x.files a
     gone_as (ends.Missing k id) t a names is = is
     gone_as (ends.Damaged k id s y) t a names is = is
     gone_as other t a names is = absurd names
@@ -218,7 +217,7 @@ module _ (x : Contents) (w v u : World) (at : IsAt x w u) (quiet : IsQuiet w v) 
       unnumbered (inl known) unknown = let no : true ≡ false = sym known ∙ ap is_some unknown in absurd (cc)
       unnumbered (inr memory) unknown = other (ap outcome_of memory.0)
 
-    refused_beside : (o : Outcome) → v.out ≡ u.out → Clearing tmp (ImageMade sure stores cache (beside out) l z) (storage_of u) (Err o) (storage_of v) → EndsSo x v (Extracts l z fs cs cache false out) o
+    refused_beside : (o : Outcome) → v.out ≡ u.out → Clearing tmp (ImageMade sure stores cache (beside out) l z) (storage_of u) (Err o) (storage_of v) → EndsSo x v (Extracts (first_store stores.groups) l z fs cs cache false out) o
     refused_beside o same (c, made, cleared) = elim (is_memory o) [
       | inl none ↦ inl none
       | inr other ↦ ends_out false o c same (tells cleared.0 ∙ made.2) made.1 cleared.1.folders (λ one. elim (refused_so (beside out) c v.dial later made.2 one o made.0) [
@@ -246,7 +245,7 @@ module _ (x : Contents) (w v u : World) (at : IsAt x w u) (quiet : IsQuiet w v) 
       climbed : Climbs w.disk n.disk
       climbed = climbs_on w.disk u.disk n.disk so_far (filled_climbs stores cache l u.disk n.disk made.1)
 
-      renamed_so : OnStorage (NotAsking (Renamed tmp out)) n (Ok tt) v → EndsSo x v (Extracts l z fs cs cache false out) ends.Done
+      renamed_so : OnStorage (NotAsking (Renamed tmp out)) n (Ok tt) v → EndsSo x v (Extracts (first_store stores.groups) l z fs cs cache false out) ends.Done
       renamed_so h = ends_out false ends.Done n.disk (h.1 ∙ same) (ap is_some h.0.0.0 ∙ mapped n.disk.files ∙ made.2) made.1 h.0.0.1.folders (λ one.
           let t = made_so (beside out) n.disk n.dial (wrote_climbs n.disk v.disk (wrote_on n.disk v.disk out h.0.0.1)) made.2 made.0 in
           record { answer = inl (refl, t.1); image = t.0.image; size = t.0.size; filled = t.0.filled; becomes = becomes t.0.image t.0.is }) where
@@ -275,31 +274,31 @@ module _ (x : Contents) (w v u : World) (at : IsAt x w u) (quiet : IsQuiet w v) 
         go ends.Memory r = refl
         go other r = absurd r
 
-    made_beside : (r : Result Unit Outcome) → OutMade sure false stores cache out l z u r v → EndsSo x v (Extracts l z fs cs cache false out) (outcome_of r)
+    made_beside : (r : Result Unit Outcome) → OutMade sure false stores cache out l z u r v → EndsSo x v (Extracts (first_store stores.groups) l z fs cs cache false out) (outcome_of r)
     made_beside (Ok _) h = renamed_so (world h.disk h.dial h.out) h.did.1 h.did.0 h.then
     made_beside (Err o) (inl h) = refused_beside o h.1 h.0
     made_beside (Err o) (inr h) =
         let c = h.then.0 in
         inl (unrenamed (world h.disk h.dial h.out) h.did.1 h.did.0 c.0 (wrote_climbs c.0 v.disk (wrote_on c.0 v.disk tmp c.2.1)) o c.1.0)
 
-    out_so : (place : Bool) (r : Result Unit Outcome) → OutMade sure place stores cache out l z u r v → EndsSo x v (Extracts l z fs cs cache place out) (outcome_of r)
+    out_so : (place : Bool) (r : Result Unit Outcome) → OutMade sure place stores cache out l z u r v → EndsSo x v (Extracts (first_store stores.groups) l z fs cs cache place out) (outcome_of r)
     out_so true r h = made_in_place r h
     out_so false r h = made_beside r h
 
 -- ---- the command
 
-module _ (x : Contents) (w v : World) (quiet : IsQuiet w v) (sure : NeverFail) (stores : Stores) (alone : AreAlone stores.groups) (all : IsTrue (are_folders (stores_of stores.groups))) (cache : Option (List ℕ)) (seeds : List (List ℕ)) (place : Bool) (index out : List ℕ) where
+module _ (x : Contents) (w v : World) (quiet : IsQuiet w v) (sure : NeverFail) (stores : ExtractStores) (telling : AreTelling stores.sure stores.groups) (all : IsTrue (are_folders (stores_of stores.groups))) (cache : Option (List ℕ)) (seeds : List (List ℕ)) (place : Bool) (index out : List ℕ) where
   abbrev seeds_of : List Listing → Seeds
   seeds_of ls = record { images = map image_name seeds; listings = ls }
 
   pub extracts_so : IsTrue (is_file index) → HasContents w x → (r : Result Unit Outcome) → ExtractEnds sure stores cache seeds place index out w r v
-      → EndsSo x v (index_at index (λ l. indexes_at 0 seeds (λ ls. folders_at (stores_of stores.groups) (λ fs. folders_at (map locations.Folder (folder_of cache)) (λ cs. Extracts l (seeds_of ls) fs cs cache place out))))) (outcome_of r)
-  extracts_so file has = index_so x w v quiet index file (λ l. indexes_at 0 seeds (λ ls. folders_at (stores_of stores.groups) (λ fs. folders_at (map locations.Folder (folder_of cache)) (λ cs. Extracts l (seeds_of ls) fs cs cache place out))))
+      → EndsSo x v (index_at index (λ l. indexes_at 0 seeds (λ ls. folders_at (stores_of stores.groups) (λ fs. folders_at (map locations.Folder (folder_of cache)) (λ cs. Extracts (first_store stores.groups) l (seeds_of ls) (firsts_of stores.groups fs) cs cache place out))))) (outcome_of r)
+  extracts_so file has = index_so x w v quiet index file (λ l. indexes_at 0 seeds (λ ls. folders_at (stores_of stores.groups) (λ fs. folders_at (map locations.Folder (folder_of cache)) (λ cs. Extracts (first_store stores.groups) l (seeds_of ls) (firsts_of stores.groups fs) cs cache place out))))
       (λ l. OnDisk (IndexesRead seeds) >>= (λ ls. OnDisk (SourcesOpened (stores_of stores.groups)) >>= (λ _. OnDisk (CacheOpened (stores_of stores.groups) cache) >>= (λ _. OutMade sure place stores cache out l (seeds_of ls)))))
-      (λ l e at is. indexes_so x w v quiet seeds (λ ls. folders_at (stores_of stores.groups) (λ fs. folders_at (map locations.Folder (folder_of cache)) (λ cs. Extracts l (seeds_of ls) fs cs cache place out)))
+      (λ l e at is. indexes_so x w v quiet seeds (λ ls. folders_at (stores_of stores.groups) (λ fs. folders_at (map locations.Folder (folder_of cache)) (λ cs. Extracts (first_store stores.groups) l (seeds_of ls) (firsts_of stores.groups fs) cs cache place out)))
       (λ ls. OnDisk (SourcesOpened (stores_of stores.groups)) >>= (λ _. OnDisk (CacheOpened (stores_of stores.groups) cache) >>= (λ _. OutMade sure place stores cache out l (seeds_of ls))))
-      (λ ls e at. stores_so x w v quiet (stores_of stores.groups) all (λ fs. folders_at (map locations.Folder (folder_of cache)) (λ cs. Extracts l (seeds_of ls) fs cs cache place out))
+      (λ ls e at. stores_so x w v quiet (stores_of stores.groups) all (λ fs. folders_at (map locations.Folder (folder_of cache)) (λ cs. Extracts (first_store stores.groups) l (seeds_of ls) (firsts_of stores.groups fs) cs cache place out))
       (λ _. OnDisk (CacheOpened (stores_of stores.groups) cache) >>= (λ _. OutMade sure place stores cache out l (seeds_of ls)))
-      (λ fs e at are. any_cache_so x w v quiet (stores_of stores.groups) cache (λ cs. Extracts l (seeds_of ls) fs cs cache place out) (λ _. OutMade sure place stores cache out l (seeds_of ls))
-      (λ cs u after cached. out_so x w v u after quiet stores alone all fs (alone_files x.folders stores.groups alone ∙ are) cache cs cached l (seeds_of ls) sure out place) e at) e at) e at)
+      (λ fs e at are. any_cache_so x w v quiet (stores_of stores.groups) cache (λ cs. Extracts (first_store stores.groups) l (seeds_of ls) (firsts_of stores.groups fs) cs cache place out) (λ _. OutMade sure place stores cache out l (seeds_of ls))
+      (λ cs u after cached. out_so x w v u after quiet stores telling all (firsts_of stores.groups fs) (tells_first stores.sure x.folders stores.groups fs telling are) cache cs cached l (seeds_of ls) sure out place) e at) e at) e at)
       w (at_first x w has)

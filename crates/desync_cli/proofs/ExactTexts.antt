@@ -1,5 +1,5 @@
 -- What the commands that only read and print answer where nothing fails.
-use Rattle.std.proofs.Common.{ap, ◌⊎◌, ◌≡◌, ◌∙◌, ℕ, ◌<◌, List, [], ◌∷◌, ◌++◌, length, map, Option, Some, None, IfSome, IsTrue, refl, subst, sym, inl, inr, Result, Ok, Err, arith}
+use Rattle.std.proofs.Common.{Bool, ap, ◌⊎◌, ◌≡◌, ◌∙◌, ℕ, ◌<◌, List, [], ◌∷◌, ◌++◌, length, map, Option, Some, None, IfSome, IsTrue, refl, subst, sym, inl, inr, Result, Ok, Err, arith}
 use Rattle.std.specs.List.{All}
 use Rattle.std.specs.Option.{option_map}
 use Rattle.caibx_codec.specs.Listing.{Listing, id_of}
@@ -17,10 +17,10 @@ use Rattle.command_worlds.specs.Printing.{Printed}
 use Rattle.command_worlds.specs.Steps.{◌>>=◌, outcome_of}
 use Rattle.command_worlds.specs.Worlds.{OnDisk, OnOut, Pure, World}
 use Rattle.command_groups.specs.Groups.{group_files, stores_of}
-use Rattle.desync_cli.proofs.Grouped.{AreAlone, alone_files, none_failed_first}
+use Rattle.desync_cli.proofs.Grouped.{AreTelling, none_failed_first, tells_first}
 use Rattle.desync_cli.proofs.Readings.{EndsSo, IsAt, IsQuiet, at_first, at_read, bound_so, ends_as, file_unrisen, folder_unrisen, folders_there, folders_unreached, image_so, index_so}
 use Rattle.desync_cli.specs.Contents.{Contents, Ending, HasContents, PrintsText, folders_at, image_at, index_at, with_text}
-use Rattle.desync_cli.specs.Exact.{Demonstrates, IsCompared, in_stores}
+use Rattle.desync_cli.specs.Exact.{Demonstrates, IsCompared, firsts_of, in_stores}
 use Rattle.dsy_base.specs.Maps.{Map}
 use Rattle.image_demo.specs.Figures.{text_of_figures}
 use Rattle.print_commands.specs.Demo.{DemoEnds, Rehearsed}
@@ -72,47 +72,48 @@ module _ (x : Contents) (w v : World) (quiet : IsQuiet w v) where
 
   -- ---- `info`
 
-  uncounted : (l : Listing) (groups : List (List Location)) (retries : ℕ) → AreAlone groups → IsTrue (are_folders (stores_of groups)) → (u : World) → IsAt x w u → (o : Outcome) → NotCounted retries (storage_of u) (storage_of v) groups l o → (o ≡ ends.Memory) ⊎ ((next : List (Map (List ℕ)) → Ending) → folders_at (stores_of groups) next x o x)
-  uncounted l groups retries alone all u at o (inl first) = folders_unreached x u.disk v.disk at.has.folders (folder_unrisen x w u v at quiet) (stores_of groups) o all first
-  uncounted l groups retries alone all u at (ends.StoreFault s) (inr h) = absurd (none_failed_first (λ y. y.denied (id_of l h.1.0)) retries (storage_of u) (storage_of v) (folder_unrisen x w u v at quiet) s groups alone all h.1.2)
-  uncounted l groups retries alone all u at ends.Memory (inr h) = inl refl
-  uncounted l groups retries alone all u at other (inr h) = absurd h
+  uncounted : (l : Listing) (sure : Bool) (groups : List (List Location)) (retries : ℕ) → AreTelling sure groups → IsTrue (are_folders (stores_of groups)) → (u : World) → IsAt x w u → (o : Outcome) → NotCounted retries (storage_of u) (storage_of v) groups l o → (o ≡ ends.Memory) ⊎ ((next : List (Map (List ℕ)) → Ending) → folders_at (stores_of groups) next x o x)
+  uncounted l sure groups retries telling all u at o (inl first) = folders_unreached x u.disk v.disk at.has.folders (folder_unrisen x w u v at quiet) (stores_of groups) o all first
+  uncounted l sure groups retries telling all u at (ends.StoreFault s) (inr h) = absurd (none_failed_first (λ y. y.denied (id_of l h.1.0)) retries (storage_of u) (storage_of v) (folder_unrisen x w u v at quiet) s groups telling.have all h.1.2)
+  uncounted l sure groups retries telling all u at ends.Memory (inr h) = inl refl
+  uncounted l sure groups retries telling all u at other (inr h) = absurd h
 
-  count_is : (l : Listing) (n : ℕ) (m : Map (Map (List ℕ))) (groups : List (List Location)) (fs : List (Map (List ℕ))) → map (group_files m) groups ≡ map Some fs → 0 < length groups → n ≡ held_count l (map chunks fs) → in_stores l (map chunks fs) ≡ Some n
-  count_is l n m [] fs are some is = absurd (omega (arith, some))
-  count_is l n m (g ∷ groups) [] are some is = absurd (cc)
-  count_is l n m (g ∷ groups) (f ∷ fs) are some is = ap Some (sym is)
+  count_is : (l : Listing) (n : ℕ) (sure : Bool) (m : Map (Map (List ℕ))) (groups : List (List Location)) (fs : List (Map (List ℕ))) → map (group_files sure m) groups ≡ map Some fs → 0 < length groups → n ≡ held_count l (map chunks fs) → in_stores l (map chunks fs) ≡ Some n
+  count_is l n sure m [] fs are some is = absurd (omega (arith, some))
+  count_is l n sure m (g ∷ groups) [] are some is = absurd (cc)
+  count_is l n sure m (g ∷ groups) (f ∷ fs) are some is = ap Some (sym is)
 
   -- what is printed of the stores, where some are named
-  abbrev Informs : Listing → List (Map (List ℕ)) → Ending
-  Informs l fs = PrintsText (text_of_info l (in_stores l (map chunks fs)))
+  abbrev Informs : Listing → List (List Location) → List (Map (List ℕ)) → Ending
+  Informs l groups fs = PrintsText (text_of_info l (in_stores l (map chunks (firsts_of groups fs))))
 
-  counted_so : (l : Listing) (groups : List (List Location)) (retries : ℕ) → AreAlone groups → IsTrue (are_folders (stores_of groups)) → (u e : World) → IsAt x w u → IsAt x w e → (n : Option ℕ) → CountedInStores retries (storage_of u) (storage_of e) groups l (Ok n)
-      → (r : Result Unit Outcome) → OnOut (Printed (text_of_info l n)) e r v → EndsSo x v (folders_at (stores_of groups) (Informs l)) (outcome_of r)
-  counted_so l [] retries alone all u e at after None h r rest = prints_so (text_of_info l None) e after r rest
-  counted_so l (g ∷ groups) retries alone all u e at after None h r rest = absurd (cc)
-  counted_so l groups retries alone all u e at after (Some n) h r rest =
+  counted_so : (l : Listing) (sure : Bool) (groups : List (List Location)) (retries : ℕ) → AreTelling sure groups → IsTrue (are_folders (stores_of groups)) → (u e : World) → IsAt x w u → IsAt x w e → (n : Option ℕ) → CountedInStores sure retries (storage_of u) (storage_of e) groups l (Ok n)
+      → (r : Result Unit Outcome) → OnOut (Printed (text_of_info l n)) e r v → EndsSo x v (folders_at (stores_of groups) (Informs l groups)) (outcome_of r)
+  counted_so l sure [] retries telling all u e at after None h r rest = prints_so (text_of_info l None) e after r rest
+  counted_so l sure (g ∷ groups) retries telling all u e at after None h r rest = absurd (cc)
+  counted_so l sure groups retries telling all u e at after (Some n) h r rest =
       let there : All (IsThere x.folders) (stores_of groups) = subst (λ f. IfSome f (λ m. All (IsThere m) (stores_of groups))) at.has.folders h.1.there in
       let fs = folders_there x (stores_of groups) all there in
-      let are = alone_files x.folders groups alone ∙ fs.1 in
-      let counts : (fs : List (Map (List ℕ))) → map (group_files x.folders) groups ≡ map Some fs → n ≡ held_count l (map chunks fs) =
-      subst (λ f. IfSome f (λ m. (fs : List (Map (List ℕ))) → map (group_files m) groups ≡ map Some fs → n ≡ held_count l (map chunks fs))) at.has.folders h.1.counts in
-      let is : in_stores l (map chunks fs.0) ≡ Some n = count_is l n x.folders groups fs.0 are h.0 (counts fs.0 are) in
-      ends_as x v (PrintsText (text_of_info l (Some n))) (folders_at (stores_of groups) (Informs l)) (outcome_of r)
-      (λ y so. fs.2 (Informs l) (outcome_of r) y (subst (λ o. PrintsText (text_of_info l o) x (outcome_of r) y) (sym is) so))
+      let firsts = firsts_of groups fs.0 in
+      let are = tells_first sure x.folders groups fs.0 telling fs.1 in
+      let counts : (fs : List (Map (List ℕ))) → map (group_files sure x.folders) groups ≡ map Some fs → n ≡ held_count l (map chunks fs) =
+      subst (λ f. IfSome f (λ m. (fs : List (Map (List ℕ))) → map (group_files sure m) groups ≡ map Some fs → n ≡ held_count l (map chunks fs))) at.has.folders h.1.counts in
+      let is : in_stores l (map chunks firsts) ≡ Some n = count_is l n sure x.folders groups firsts are h.0 (counts firsts are) in
+      ends_as x v (PrintsText (text_of_info l (Some n))) (folders_at (stores_of groups) (Informs l groups)) (outcome_of r)
+      (λ y so. fs.2 (Informs l groups) (outcome_of r) y (subst (λ o. PrintsText (text_of_info l o) x (outcome_of r) y) (sym is) so))
       (prints_so (text_of_info l (Some n)) e after r rest)
 
-  informs_so : (l : Listing) (groups : List (List Location)) (retries : ℕ) → AreAlone groups → IsTrue (are_folders (stores_of groups)) → (u : World) → IsAt x w u → (r : Result Unit Outcome) → (OnStorage (IdsCounted groups retries l) >>= (λ n. OnOut (Printed (text_of_info l n)))) u r v
-      → EndsSo x v (folders_at (stores_of groups) (Informs l)) (outcome_of r)
-  informs_so l groups retries alone all u at = bound_so (OnStorage (IdsCounted groups retries l)) (λ n. OnOut (Printed (text_of_info l n))) (EndsSo x v (folders_at (stores_of groups) (Informs l))) u v
-      (λ o h. elim (uncounted l groups retries alone all u at o h.0.0) [
+  informs_so : (l : Listing) (sure : Bool) (groups : List (List Location)) (retries : ℕ) → AreTelling sure groups → IsTrue (are_folders (stores_of groups)) → (u : World) → IsAt x w u → (r : Result Unit Outcome) → (OnStorage (IdsCounted sure groups retries l) >>= (λ n. OnOut (Printed (text_of_info l n)))) u r v
+      → EndsSo x v (folders_at (stores_of groups) (Informs l groups)) (outcome_of r)
+  informs_so l sure groups retries telling all u at = bound_so (OnStorage (IdsCounted sure groups retries l)) (λ n. OnOut (Printed (text_of_info l n))) (EndsSo x v (folders_at (stores_of groups) (Informs l groups))) u v
+      (λ o h. elim (uncounted l sure groups retries telling all u at o h.0.0) [
         | inl none ↦ inl none
-        | inr ends ↦ inr (x, (at_read x w u v at h.0.1.0.disk h.1).has, ends (Informs l))
+        | inr ends ↦ inr (x, (at_read x w u v at h.0.1.0.disk h.1).has, ends (Informs l groups))
       ])
-      (λ n e r h rest. counted_so l groups retries alone all u e at (at_read x w u e at h.0.1.0.disk h.1) n h.0.0 r rest)
+      (λ n e r h rest. counted_so l sure groups retries telling all u e at (at_read x w u e at h.0.1.0.disk h.1) n h.0.0 r rest)
 
-  pub tells_so : (groups : List (List Location)) (retries : ℕ) → AreAlone groups → (index : List ℕ) → IsTrue (are_folders (stores_of groups)) → IsTrue (is_file index) → HasContents w x → (r : Result Unit Outcome) → InfoEnds groups retries index w r v → EndsSo x v (index_at index (λ l. folders_at (stores_of groups) (Informs l))) (outcome_of r)
-  tells_so groups retries alone index all file has = index_so x w v quiet index file (λ l. folders_at (stores_of groups) (Informs l)) (λ l. OnStorage (IdsCounted groups retries l) >>= (λ n. OnOut (Printed (text_of_info l n)))) (λ l e at is. informs_so l groups retries alone all e at) w (at_first x w has)
+  pub tells_so : (sure : Bool) (groups : List (List Location)) (retries : ℕ) → AreTelling sure groups → (index : List ℕ) → IsTrue (are_folders (stores_of groups)) → IsTrue (is_file index) → HasContents w x → (r : Result Unit Outcome) → InfoEnds sure groups retries index w r v → EndsSo x v (index_at index (λ l. folders_at (stores_of groups) (Informs l groups))) (outcome_of r)
+  tells_so sure groups retries telling index all file has = index_so x w v quiet index file (λ l. folders_at (stores_of groups) (Informs l groups)) (λ l. OnStorage (IdsCounted sure groups retries l) >>= (λ n. OnOut (Printed (text_of_info l n)))) (λ l e at is. informs_so l sure groups retries telling all e at) w (at_first x w has)
 
   -- ---- `demo`
 

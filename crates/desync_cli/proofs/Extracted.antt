@@ -12,8 +12,7 @@ use Rattle.command_steps.specs.Sources.{storage, storage_of}
 use Rattle.command_words.specs.Locations.{index_place_of}
 use Rattle.command_steps.specs.Seeds.{image_name}
 use Rattle.command_worlds.specs.Worlds.{World}
-use Rattle.extract_command.specs.declared.stores.Stores.{Stores}
-use Rattle.extract_command.specs.Extract.{ExtractEnds, HadFrom, Into, IsExtracted, KeepsIn, NeverFail, Seeds, WhereFolders, beside, folder_of, in_place, temporary_out}
+use Rattle.extract_command.specs.Extract.{ExtractEnds, ExtractStores, HadFrom, Into, IsExtracted, KeepsIn, NeverFail, Seeds, WhereFolders, beside, folder_of, in_place, temporary_out}
 use Rattle.extract_command.proofs.Replaced.{beside_apart}
 use Rattle.dsy_base.proofs.Counts.{at_other, at_same}
 use Rattle.dsy_base.specs.Disk.{Disk}
@@ -21,11 +20,11 @@ use Rattle.dsy_base.specs.Maps.{Map, at_name}
 use Rattle.std.specs.Option.{option_map}
 
 -- what the assembly from d to e says of the file, over what files and folders hold
-abbrev MadeOver : Stores → Option (List ℕ) → Into → Listing → Seeds → Disk → Disk → Option (Map (List ℕ)) → Option (Map (Map (List ℕ))) → Option (Map (List ℕ)) → Type 0
+abbrev MadeOver : ExtractStores → Option (List ℕ) → Into → Listing → Seeds → Disk → Disk → Option (Map (List ℕ)) → Option (Map (Map (List ℕ))) → Option (Map (List ℕ)) → Type 0
 MadeOver stores cache o l x d e f y z = IfSome f (λ b. IfSome y (λ n. IfSome z (λ a. (cs : List (Map (List ℕ))) × (map n (folder_of cache) ≡ map Some cs)
     × (((t : List ℕ) × KeepsIn d e b a o l t × IsRight t l) × WhereFolders n stores (λ fs. (i : ℕ) → i < count_of l → HadFrom b o l x cs fs i)))))
 
-module _ (Spelled : List ℕ → Listing → Type 0) (names : Stores) (cache : Option (List ℕ)) (index out : List ℕ) (l : Listing) (x : Seeds) (d e : Disk) (listed : Spelled index l) where
+module _ (Spelled : List ℕ → Listing → Type 0) (names : ExtractStores) (cache : Option (List ℕ)) (index out : List ℕ) (l : Listing) (x : Seeds) (d e : Disk) (listed : Spelled index l) where
   -- over files that tell, of which the folders tell too
   over_files : (f : Option (Map (List ℕ))) (y : Option (Map (Map (List ℕ)))) (z : Option (Map (List ℕ))) → is_some f ≡ is_some y → is_some z ≡ is_some f → MadeOver names cache (in_place out) l x d e f y z
       → IfSome z (λ a. IsExtracted Spelled a index out)
@@ -49,7 +48,7 @@ module _ (Spelled : List ℕ → Listing → Type 0) (names : Stores) (cache : O
       let made_so : IsExtracted Spelled now index out = record { listing = l; listed = listed; image = t; holds = holds; right = made.2.0.2 } in
       subst (λ o. IfSome o (λ a. IsExtracted Spelled a index out)) (sym is) made_so
 
-pub extracted : (sure : NeverFail) (stores : Stores) (cache : Option (List ℕ)) (seeds : List (List ℕ)) (place : Bool) (index out : List ℕ) (w v : World) → is_some w.disk.files ≡ is_some w.disk.folders → ExtractEnds sure stores cache seeds place index out w (Ok tt) v
+pub extracted : (sure : NeverFail) (stores : ExtractStores) (cache : Option (List ℕ)) (seeds : List (List ℕ)) (place : Bool) (index out : List ℕ) (w v : World) → is_some w.disk.files ≡ is_some w.disk.folders → ExtractEnds sure stores cache seeds place index out w (Ok tt) v
     → IfSome v.disk.files (λ a. IsExtracted (IndexSpells (storage_of w) (storage_of v)) a index out)
 extracted sure stores cache seeds true index out w v told h =
     let got = got_reads index (index_place_of index) (storage_of w) (Ok h.gave) (storage h.disk h.dial) h.did.0 in

@@ -32,7 +32,6 @@ use Rattle.command_indexes.proofs.FairSteps.{IsFair, IsLeft, IsRefusal, IsStep, 
 use Rattle.command_groups.specs.Groups.{stores_of}
 use Rattle.command_steps.proofs.Numbers.{rose_not_quiet}
 use Rattle.desync_cli.proofs.Grouped.{HaveStores, group_failed, lacking_failed}
-use Rattle.extract_command.specs.declared.stores.Stores.{Stores}
 use Rattle.cache_command.specs.Caching.{EndsFilling, FillTells, IndexesFilled, NotFilled, of_command, outcome_of_fill}
 use Rattle.cat_command.specs.Cat.{RangePut, range_size}
 use Rattle.cat_command.specs.Putting.{chunk_at}
@@ -40,7 +39,7 @@ use Rattle.image_commands.specs.Chop.{ImageChopped}
 use Rattle.desync_cli.specs.Commands.{CommandEnds, DesyncEnds, NoCommand, SureTypes, TellsRefusal, WordsRead, command_of, command_said, parts, refusal_in, spares, usage_refusal}
 use Rattle.print_commands.specs.Demo.{Rehearsed}
 use Rattle.extract_command.proofs.Wrote.{wrote_on}
-use Rattle.extract_command.specs.Extract.{CacheFilled, Clearing, FillsCache, ImageMade, Into, NeverFail, OutMade, Renamed, Seeds, beside, in_place, never_fail, temporary_out}
+use Rattle.extract_command.specs.Extract.{CacheFilled, Clearing, ExtractStores, FillsCache, ImageMade, Into, NeverFail, OutMade, Renamed, Seeds, beside, in_place, never_fail, temporary_out}
 use Rattle.store_commands.specs.Info.{IdsCounted, NotAsked}
 use Rattle.image_commands.specs.Make.{ImageStored, IndexWritten, SizesJudged, WritesStore}
 use Rattle.proxy_command.specs.ProxyServing.{LookTypes, OrUnheard, ProxyServed, ServesProxyTo, Supply, Surely}
@@ -66,15 +65,15 @@ use Rattle.cache_fill.specs.declared.fill.FillFault.TheVariants as fills
 
 -- ---- the steps of one command
 
-module _ (s : Spares) (x : Parts) (p : Output) (groups : List (List Location)) (retries : ℕ) (some : HaveStores groups) (are : x.stores ≡ stores_of groups) (spared : IsTrue s.dial → IsTrue (are_folders (stores_of groups))) where
+module _ (s : Spares) (x : Parts) (p : Output) (looks : Bool) (groups : List (List Location)) (retries : ℕ) (some : HaveStores groups) (are : x.stores ≡ stores_of groups) (spared : IsTrue s.dial → IsTrue (are_folders (stores_of groups))) where
   asked_fair : (l : Listing) (w v : Storage) (o : Outcome) → NotAsked retries w v groups l o → IsFair x o (behind p w) (behind p v)
   asked_fair l w v (ends.StoreFault k) h = (tt, subst (λ (q : List Location). StoreRose w v (store_at q k)) (sym are) (group_failed (λ y. y.denied (id_of l h.1.0)) retries w v k groups some h.1.2))
   asked_fair l w v ends.Memory h = (tt, tt)
   asked_fair l w v other h = absurd h
 
-  counted_step : (l : Listing) → IsStep (behind p) s x (IdsCounted groups retries l)
+  counted_step : (l : Listing) → IsStep (behind p) s x (IdsCounted looks groups retries l)
   counted_step l = record { fair = go; leaves = λ w v r h. consults p (stores_of groups) spared h.1 } where
-    go : (w v : Storage) (o : Outcome) → IdsCounted groups retries l w (Err o) v → IsFair x o (behind p w) (behind p v)
+    go : (w v : Storage) (o : Outcome) → IdsCounted looks groups retries l w (Err o) v → IsFair x o (behind p w) (behind p v)
     go w v o h = elim h.0 [
       | inl k ↦ sources_fair s x p w v (stores_of groups) o k
       | inr k ↦ asked_fair l w v o k
@@ -96,7 +95,7 @@ module _ (s : Spares) (x : Parts) (p : Unread) where
   written_fair q bytes d e other h = absurd h.0
 
 -- what a step leaves that writes files, and the folder of a cache, and asks servers
-filled : {o : Bool} {stores : Stores} {cache : Option (List ℕ)} {l : Listing} {w v : Storage} (p : Output) → FillsCache stores cache l w.disk v.disk → DialsStores (stores_of stores.groups) w.dial v.dial
+filled : {o : Bool} {stores : ExtractStores} {cache : Option (List ℕ)} {l : Listing} {w v : Storage} (p : Output) → FillsCache stores cache l w.disk v.disk → DialsStores (stores_of stores.groups) w.dial v.dial
     → IsLeft (record { files = false; folders = not (is_some cache); dial = are_folders (stores_of stores.groups); out = o }) (behind p w) (behind p v)
 filled {o} {stores} {cache} {l} {w} {v} p r dials = record {
   keeps = record { files = λ t. absurd (cc); folders = go cache r.folders; dial = dials.1; out = λ t. refl };
@@ -109,7 +108,7 @@ filled {o} {stores} {cache} {l} {w} {v} p r dials = record {
   go None same t = same
   go (Some c) h t = absurd (cc)
 
-assembled_step : (sure : NeverFail) (o : Bool) (x : Parts) (p : Output) (stores : Stores) → HaveStores stores.groups → x.stores ≡ stores_of stores.groups → (cache : Option (List ℕ)) (l : Listing) (z : Seeds) (i : Into) → i.name ≡ x.target
+assembled_step : (sure : NeverFail) (o : Bool) (x : Parts) (p : Output) (stores : ExtractStores) → HaveStores stores.groups → x.stores ≡ stores_of stores.groups → (cache : Option (List ℕ)) (l : Listing) (z : Seeds) (i : Into) → i.name ≡ x.target
     → IsStep (behind p) (record { files = false; folders = not (is_some cache); dial = are_folders (stores_of stores.groups); out = o }) x (ImageMade sure stores cache i l z)
 assembled_step sure o x p stores some are cache l z i is = record { fair = fair; leaves = λ w v r h. filled p h.1 h.3 } where
   fair : (w v : Storage) (o : Outcome) → ImageMade sure stores cache i l z w (Err o) v → IsFair x o (behind p w) (behind p v)
@@ -122,8 +121,8 @@ assembled_step sure o x p stores some are cache l z i is = record { fair = fair;
 
 -- ---- the steps of `cat`
 
-put_step : (x : Parts) (groups : List (List Location)) (retries : ℕ) → HaveStores groups → x.stores ≡ stores_of groups → (l : Listing) (at n : ℕ) → IsStep whole (record { files = true; folders = true; dial = are_folders (stores_of groups); out = false }) x (RangePut groups retries l at n)
-put_step x groups retries some are l at n = record {
+put_step : (x : Parts) (looks : Bool) (groups : List (List Location)) (retries : ℕ) → HaveStores groups → x.stores ≡ stores_of groups → (l : Listing) (at n : ℕ) → IsStep whole (record { files = true; folders = true; dial = are_folders (stores_of groups); out = false }) x (RangePut looks groups retries l at n)
+put_step x looks groups retries some are l at n = record {
   fair = fair;
   leaves = λ w v r h. record {
     keeps = record { files = λ t. h.1.0.disk.files; folders = λ t. h.1.0.disk.folders; dial = h.1.1; out = λ t. absurd (cc) };
@@ -133,7 +132,7 @@ put_step x groups retries some are l at n = record {
     out = h.3;
   };
 } where
-  fair : (w v : World) (o : Outcome) → RangePut groups retries l at n w (Err o) v → IsFair x o w v
+  fair : (w v : World) (o : Outcome) → RangePut looks groups retries l at n w (Err o) v → IsFair x o w v
   fair w v (ends.Missing k id) h = (tt, tt)
   fair w v (ends.Damaged k id store shows) h = (tt, tt)
   fair w v (ends.StoreFault s) h = (tt, subst (λ (q : List Location). StoreRose (storage_of w) (storage_of v) (store_at q s)) (sym are) (lacking_failed retries (chunk_at (kind_of l) l h.0.0) (storage_of w) (storage_of v) s groups some h.0.2.said))
@@ -143,28 +142,28 @@ put_step x groups retries some are l at n = record {
 
 -- ---- the steps of `cache`
 
-module _ (x : Parts) (p : Output) (groups : List (List Location)) (retries : ℕ) (some : HaveStores groups) (are : x.stores ≡ stores_of groups) (w v : Storage) where
-  fill_fair : (l : Listing) (y : Option (Map (List ℕ))) (n : ℕ) (fault : FillFault) → FillTells (of_command retries w v groups x.cache) l y n fault → IsFair x (outcome_of_fill fault) (behind p w) (behind p v)
+module _ (x : Parts) (p : Output) (looks : Bool) (groups : List (List Location)) (retries : ℕ) (some : HaveStores groups) (are : x.stores ≡ stores_of groups) (w v : Storage) where
+  fill_fair : (l : Listing) (y : Option (Map (List ℕ))) (n : ℕ) (fault : FillFault) → FillTells (of_command looks retries w v groups x.cache) l y n fault → IsFair x (outcome_of_fill fault) (behind p w) (behind p v)
   fill_fair l y n (fills.Missing k id) h = (tt, tt)
   fill_fair l y n (fills.Damaged k id store shows) h = (tt, tt)
   fill_fair l y n (fills.StoreFault k) h = (tt, subst (λ (q : List Location). StoreRose w v (store_at q k)) (sym are) (lacking_failed retries (entry_want l n h.0) w v k groups some h.1.said))
   fill_fair l y n fills.CacheFault h = (tt, h.0)
   fill_fair l y n fills.Memory h = (tt, tt)
 
-  ends_fair : (l : Listing) (held files : Option (Map (List ℕ))) (fault : FillFault) → EndsFilling (of_command retries w v groups x.cache) l fault held files → IsFair x (outcome_of_fill fault) (behind p w) (behind p v)
+  ends_fair : (l : Listing) (held files : Option (Map (List ℕ))) (fault : FillFault) → EndsFilling (of_command looks retries w v groups x.cache) l fault held files → IsFair x (outcome_of_fill fault) (behind p w) (behind p v)
   ends_fair l held files fault (inl none) = subst (λ f. IsFair x (outcome_of_fill f) (behind p w) (behind p v)) (sym none.0) (tt, tt)
   ends_fair l held files fault (inr h) = fill_fair l files h.entry fault h.tells
 
-  each_fair : (indexes : List (List ℕ)) → ((q : List ℕ) → Contains indexes q → Contains x.indexes q) → (held files : Option (Map (List ℕ))) (o : Outcome) → NotFilled (of_command retries w v groups x.cache) w v indexes held files o → IsFair x o (behind p w) (behind p v)
+  each_fair : (indexes : List (List ℕ)) → ((q : List ℕ) → Contains indexes q → Contains x.indexes q) → (held files : Option (Map (List ℕ))) (o : Outcome) → NotFilled (of_command looks retries w v groups x.cache) w v indexes held files o → IsFair x o (behind p w) (behind p v)
   each_fair [] among held files o h = absurd h
   each_fair (q ∷ indexes) among held files o (inl h) = not_spelled_fair x p w v q (among q (0, omega arith, refl)) o h.0
   each_fair (q ∷ indexes) among held files o (inr (l, listed, inl (fault, is, filled))) = subst (λ r. IsFair x r (behind p w) (behind p v)) (sym is) (ends_fair l held files fault filled.order)
   each_fair (q ∷ indexes) among held files o (inr (l, listed, inr (z, filled, rest))) = each_fair indexes (λ a has. among a (suc has.0, omega (arith, has.1), has.2)) z files o rest
 
-filled_step : (f o : Bool) (x : Parts) (p : Output) (groups : List (List Location)) (retries : ℕ) → HaveStores groups → x.stores ≡ stores_of groups → (most : ℕ) (indexes : List (List ℕ)) → ((q : List ℕ) → Contains indexes q → Contains x.indexes q)
-    → IsStep (behind p) (record { files = f; folders = false; dial = are_folders (stores_of groups) && are_files indexes; out = o }) x (IndexesFilled groups retries x.cache most indexes)
-filled_step f o x p groups retries some are most indexes among = record {
-  fair = λ w v r h. each_fair x p groups retries some are w v indexes among h.held h.now r h.filled;
+filled_step : (f o : Bool) (x : Parts) (p : Output) (looks : Bool) (groups : List (List Location)) (retries : ℕ) → HaveStores groups → x.stores ≡ stores_of groups → (most : ℕ) (indexes : List (List ℕ)) → ((q : List ℕ) → Contains indexes q → Contains x.indexes q)
+    → IsStep (behind p) (record { files = f; folders = false; dial = are_folders (stores_of groups) && are_files indexes; out = o }) x (IndexesFilled looks groups retries x.cache most indexes)
+filled_step f o x p looks groups retries some are most indexes among = record {
+  fair = λ w v r h. each_fair x p looks groups retries some are w v indexes among h.held h.now r h.filled;
   leaves = λ w v r h. record {
     keeps = record { files = λ t. h.adds.files; folders = λ t. absurd (cc); dial = h.undialed; out = λ t. refl };
     files = h.adds.counts;
@@ -206,7 +205,7 @@ renamed_step f n o x p from to = record { fair = fair; leaves = leaves } where
   leaves d e (Ok t) h = writes p (wrote_on d e to h.1)
   leaves d e (Err r) h = writes p (wrote_on d e to h.2)
 
-out_step : (sure : NeverFail) (o : Bool) (x : Parts) (stores : Stores) → HaveStores stores.groups → x.stores ≡ stores_of stores.groups → (cache : Option (List ℕ)) (l : Listing) (z : Seeds) (place : Bool) (out : List ℕ) → x.target ≡ cond place out (temporary_out out)
+out_step : (sure : NeverFail) (o : Bool) (x : Parts) (stores : ExtractStores) → HaveStores stores.groups → x.stores ≡ stores_of stores.groups → (cache : Option (List ℕ)) (l : Listing) (z : Seeds) (place : Bool) (out : List ℕ) → x.target ≡ cond place out (temporary_out out)
     → IsStep whole (record { files = false; folders = not (is_some cache); dial = are_folders (stores_of stores.groups); out = o }) x (OutMade sure place stores cache out l z)
 out_step sure o x stores some are cache l z true out is = on_sources (λ p. assembled_step sure o x p stores some are cache l z (in_place out) (sym is))
 out_step sure o x stores some are cache l z false out is =
@@ -380,11 +379,11 @@ command_step : (sure : SureTypes) (h : Heard) (c : Command) → Fits c → IsSte
 command_step sure h (commands.Make store sizes workers digest index image) f = bound (pure_step (SizesJudged sizes) (judged_fair (parts h (commands.Make store sizes workers digest index image)) sizes)) (λ z. bound (on_disk (λ p. image_step _ _ p)) (λ told. bound (on_disk (λ p. source_taken_step _ _ _ _ p _ store)) (λ held. bound (on_sources (λ p. stored_step _ p store refl _ _ digest z told held)) (λ bytes. on_disk (λ p. written_step _ _ _ _ p index bytes)))))
 command_step sure h (commands.VerifyIndex workers index image) f = bound (on_sources (λ p. got_step p index (the_one index) (λ t. t))) (λ l. bound (on_disk (λ p. image_step _ _ p)) (λ told. on_disk (λ p. checked_step _ _ p l told)))
 command_step sure h (commands.Chop store workers index image) f = bound (on_sources (λ p. got_step p index (the_one index) (second (is_folder store) (is_file index)))) (λ l. bound (on_disk (λ p. image_step _ _ p)) (λ told. bound (on_disk (λ p. source_taken_step _ _ _ _ p _ store)) (λ held. on_sources (λ p. dial_less (first (is_folder store) (is_file index)) (chopped_step _ p store refl _ _ l told held)))))
-command_step sure h (commands.Cache stores retries cache workers indexes) f = bound (on_disk (λ p. sources_step _ _ p (stores_of stores))) (λ u. bound (on_disk (λ p. cache_step _ _ p (stores_of stores) (Some cache))) (λ u. on_sources (λ p. filled_step _ _ (parts h (commands.Cache stores retries cache workers indexes)) p stores retries f.1.0 refl workers indexes (λ q has. has))))
+command_step sure h (commands.Cache stores retries cache workers indexes) f = bound (on_disk (λ p. sources_step _ _ p (stores_of stores))) (λ u. bound (on_disk (λ p. cache_step _ _ p (stores_of stores) (Some cache))) (λ u. on_sources (λ p. filled_step _ _ (parts h (commands.Cache stores retries cache workers indexes)) p sure.looks.never_fail stores retries f.1.0 refl workers indexes (λ q has. has))))
 command_step sure h (commands.ListChunks index) f = bound (on_sources (λ p. got_step p index (the_one index) (λ t. t))) (λ l. on_out (λ d. printed_step _ _ _ _ d (text_of_chunks l)))
-command_step sure h (commands.Extract stores retries seeds cache in_place workers index target) f = bound (on_sources (λ p. got_step p index (the_one index) (second (are_folders (stores_of stores)) (is_file index)))) (λ l. bound (on_disk (λ p. indexes_step _ _ p seeds)) (λ ls. bound (on_disk (λ p. sources_step _ _ p (stores_of stores))) (λ u. bound (on_disk (λ p. cache_step _ _ p (stores_of stores) cache)) (λ u. dial_less (first (are_folders (stores_of stores)) (is_file index)) (out_step (never_fail sure.target h.never_fails) _ (parts h (commands.Extract stores retries seeds cache in_place workers index target)) (record { groups = stores; retries = retries }) f.1.0 refl cache l (record { images = map image_name seeds; listings = ls }) in_place target refl)))))
-command_step sure h (commands.Cat stores retries offset length index) f = bound (on_sources (λ p. got_step p index (the_one index) (second (are_folders (stores_of stores)) (is_file index)))) (λ l. bound (on_disk (λ p. sources_step _ _ p (stores_of stores))) (λ u. dial_less (first (are_folders (stores_of stores)) (is_file index)) (put_step (parts h (commands.Cat stores retries offset length index)) stores retries f.1.0 refl l offset (range_size l offset length))))
-command_step sure h (commands.Info stores retries index) f = bound (on_sources (λ p. got_step p index (the_one index) (second (are_folders (stores_of stores)) (is_file index)))) (λ l. bound (on_sources (λ p. counted_step _ _ p stores retries f.0.0 refl (first (are_folders (stores_of stores)) (is_file index)) l)) (λ n. on_out (λ d. printed_step _ _ _ _ d (text_of_info l n))))
+command_step sure h (commands.Extract stores retries seeds cache in_place workers index target) f = bound (on_sources (λ p. got_step p index (the_one index) (second (are_folders (stores_of stores)) (is_file index)))) (λ l. bound (on_disk (λ p. indexes_step _ _ p seeds)) (λ ls. bound (on_disk (λ p. sources_step _ _ p (stores_of stores))) (λ u. bound (on_disk (λ p. cache_step _ _ p (stores_of stores) cache)) (λ u. dial_less (first (are_folders (stores_of stores)) (is_file index)) (out_step (never_fail sure.target h.never_fails) _ (parts h (commands.Extract stores retries seeds cache in_place workers index target)) (record { groups = stores; retries = retries; sure = sure.looks.never_fail }) f.1.0 refl cache l (record { images = map image_name seeds; listings = ls }) in_place target refl)))))
+command_step sure h (commands.Cat stores retries offset length index) f = bound (on_sources (λ p. got_step p index (the_one index) (second (are_folders (stores_of stores)) (is_file index)))) (λ l. bound (on_disk (λ p. sources_step _ _ p (stores_of stores))) (λ u. dial_less (first (are_folders (stores_of stores)) (is_file index)) (put_step (parts h (commands.Cat stores retries offset length index)) sure.looks.never_fail stores retries f.1.0 refl l offset (range_size l offset length))))
+command_step sure h (commands.Info stores retries index) f = bound (on_sources (λ p. got_step p index (the_one index) (second (are_folders (stores_of stores)) (is_file index)))) (λ l. bound (on_sources (λ p. counted_step _ _ p sure.looks.never_fail stores retries f.0.0 refl (first (are_folders (stores_of stores)) (is_file index)) l)) (λ n. on_out (λ d. printed_step _ _ _ _ d (text_of_info l n))))
 command_step sure h (commands.Verify store repair workers digest) f = bound (on_disk (λ p. taken_step _ _ _ _ p [] store)) (λ held. verified_step _ _ digest store repair held refl)
 command_step sure h (commands.Prune store indexes) f = bound (indexes_got_step 0 indexes (λ q has. has) (λ t. t)) (λ ls. bound (on_disk (λ p. taken_step _ _ _ _ p [] store)) (λ held. on_disk (λ p. pruned_step _ _ _ _ p (is_listed_in ls) store held refl)))
 command_step sure h (commands.Demo number size workers digest) f = bound (pure_step (Rehearsed digest number size) (rehearsed_fair (parts h (commands.Demo number size workers digest)) digest number size)) (λ f. on_out (λ d. printed_step _ _ _ _ d (text_of_figures f)))

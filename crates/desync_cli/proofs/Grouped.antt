@@ -1,8 +1,8 @@
 -- Stores in groups: how many they are, which of them failed, and groups of one store each.
-use Rattle.std.proofs.Common.{◌≡◌, ◌++◌, ◌+◌, ◌≤◌, ℕ, zero, suc, IfSome, IsTrue, List, [], ◌∷◌, Option, length, map, sum_by, take, refl, sym, subst, ap, ap₂, ◌∙◌, inl, inr, arith}
+use Rattle.std.proofs.Common.{Bool, true, false, ◌&&◌, ◌⊎◌, Some, is_some, drop, ◌≡◌, ◌++◌, ◌+◌, ◌≤◌, ℕ, zero, suc, IfSome, IsTrue, List, [], ◌∷◌, Option, length, map, sum_by, take, refl, sym, subst, ap, ap₂, ◌∙◌, inl, inr, arith}
 use Rattle.std.specs.List.{All}
 use Rattle.std.proofs.lemmas.Bool.{cases_lt}
-use Rattle.std.proofs.lemmas.List.{length-append, map-append}
+use Rattle.std.proofs.lemmas.List.{length-append}
 use Rattle.std.proofs.lemmas.List.Elements.{All-head, All-tail}
 use Rattle.std.proofs.lemmas.List.Sums.{sum_by-cons}
 use Rattle.chunk_store.specs.Said.{Said}
@@ -21,7 +21,10 @@ use Rattle.dsy_base.specs.Counts.{Rose, raised}
 use Rattle.dsy_base.specs.Maps.{Map}
 use Rattle.http_read.specs.Refusals.{IsUnacceptable}
 use Rattle.http_read.specs.Remotes.{AtLeast}
+use Rattle.store_chain.proofs.Pairs.{cons_head, cons_tail}
 use Rattle.store_chain.specs.Refusals.{Lacks}
+use Rattle.store_group.specs.Groups.{all_tell, seen_of, steady_of}
+use Rattle.desync_cli.specs.Exact.{firsts_of}
 use Rattle.store_chain.specs.declared.query.Query.{Query}
 use Rattle.store_chain.specs.declared.refused.Refused.{Refused}
 use Rattle.store_chain.specs.declared.refused.Refused.TheVariants as refused
@@ -95,21 +98,59 @@ lacking_failed e c w v s groups some (r, is, h) = group_failed (Lacks c) e w v s
 abbrev pub AreAlone : List (List Location) → Type 0
 AreAlone groups = All (λ (g : List Location). length g ≡ 1) groups
 
-alone_file : (m : Map (Map (List ℕ))) (g : List Location) → length g ≡ 1 → map (location_files m) g ≡ group_files m g ∷ []
-alone_file m [] one = absurd (omega (arith, one))
-alone_file m (s ∷ []) one = refl
-alone_file m (s ∷ t ∷ g) one = absurd (omega (arith, one))
-
--- their files are those of the stores
-pub alone_files : (m : Map (Map (List ℕ))) (groups : List (List Location)) → AreAlone groups → map (group_files m) groups ≡ map (location_files m) (stores_of groups)
-alone_files m [] alone = refl
-alone_files m (g ∷ groups) alone =
-    let one = alone_file m g (All-head (λ (g : List Location). length g ≡ 1) g groups alone) in
-    ap₂ (λ (f : List (Option (Map (List ℕ)))) (fs : List (Option (Map (List ℕ)))). f ++ fs) (sym one) (alone_files m groups (All-tail (λ (g : List Location). length g ≡ 1) g groups alone)) ∙ sym (map-append (location_files m) g (stores_of groups))
-
 -- each has a store
 pub alone_some : (groups : List (List Location)) → AreAlone groups → HaveStores groups
 alone_some groups alone k d lt = let one = alone k d lt in omega (arith, one)
+
+-- ---- groups of folders that tell
+
+-- each has a store, and is that one or of folders that never fail
+pub record AreTelling (sure : Bool) (groups : List (List Location)) : Type 0 where
+  pub have : HaveStores groups
+  pub tell : AreAlone groups ⊎ IsTrue sure
+
+module _ (m : Map (Map (List ℕ))) where
+  abbrev Files : Location → Option (Map (List ℕ))
+  Files = location_files m
+
+  -- what is behind the stores of a group
+  behind : (g more : List Location) (fs : List (Map (List ℕ))) → map Files (g ++ more) ≡ map Some fs → map Files more ≡ map Some (drop (length g) fs)
+  behind [] more fs are = are
+  behind (q ∷ g) more [] are = absurd (cc)
+  behind (q ∷ g) more (f ∷ fs) are = behind g more fs (cons_tail (Files q) (Some f) (map Files (g ++ more)) (map Some fs) are)
+
+  -- they all tell
+  front_tells : (g more : List Location) (fs : List (Map (List ℕ))) → map Files (g ++ more) ≡ map Some fs → all_tell Files g ≡ true
+  front_tells [] more fs are = refl
+  front_tells (q ∷ g) more [] are = absurd (cc)
+  front_tells (q ∷ g) more (f ∷ fs) are =
+      let one = ap is_some (cons_head (Files q) (Some f) (map Files (g ++ more)) (map Some fs) are) in
+      let others = front_tells g more fs (cons_tail (Files q) (Some f) (map Files (g ++ more)) (map Some fs) are) in
+      λ i. one i && others i
+
+  -- the group tells what its first store holds
+  one_first : (sure : Bool) (s : Location) (g more : List Location) (f : Map (List ℕ)) (fs : List (Map (List ℕ))) → (length (s ∷ g) ≡ 1) ⊎ IsTrue sure → map Files (s ∷ (g ++ more)) ≡ map Some (f ∷ fs) → group_files sure m (s ∷ g) ≡ Some f
+  one_first true s g more f fs tell are =
+      ap (λ (b : Bool). seen_of Files (s ∷ g) (steady_of b 0 (s ∷ g))) (front_tells (s ∷ g) more (f ∷ fs) are) ∙ cons_head (Files s) (Some f) (map Files (g ++ more)) (map Some fs) are
+  one_first false s [] more f fs tell are = cons_head (Files s) (Some f) (map Files more) (map Some fs) are
+  one_first false s (q ∷ g) more f fs (inl one) are = absurd (omega (arith, one))
+  one_first false s (q ∷ g) more f fs (inr t) are = absurd (cc)
+
+  -- the groups tell what their first stores hold
+  tell_firsts : (sure : Bool) (groups : List (List Location)) (fs : List (Map (List ℕ))) → HaveStores groups → AreAlone groups ⊎ IsTrue sure → map Files (stores_of groups) ≡ map Some fs → map (group_files sure m) groups ≡ map Some (firsts_of groups fs)
+  tell_firsts sure [] fs have tell are = refl
+  tell_firsts sure ([] ∷ groups) fs have tell are =
+      let none : 1 ≤ 0 = All-head (λ (g : List Location). 1 ≤ length g) [] groups have in
+      absurd (omega (arith, none))
+  tell_firsts sure ((s ∷ g) ∷ groups) [] have tell are = absurd (cc)
+  tell_firsts sure ((s ∷ g) ∷ groups) (f ∷ fs) have tell are =
+      let one = one_first sure s g (stores_of groups) f fs (elim tell [ inl alone ↦ inl (All-head (λ (g : List Location). length g ≡ 1) (s ∷ g) groups alone) | inr t ↦ inr t ]) are in
+      let others = tell_firsts sure groups (drop (length g) fs) (All-tail (λ (g : List Location). 1 ≤ length g) (s ∷ g) groups have)
+      (elim tell [ inl alone ↦ inl (All-tail (λ (g : List Location). length g ≡ 1) (s ∷ g) groups alone) | inr t ↦ inr t ]) (behind (s ∷ g) (stores_of groups) (f ∷ fs) are) in
+      λ i. one i ∷ others i
+
+pub tells_first : (sure : Bool) (m : Map (Map (List ℕ))) (groups : List (List Location)) (fs : List (Map (List ℕ))) → AreTelling sure groups → map (location_files m) (stores_of groups) ≡ map Some fs → map (group_files sure m) groups ≡ map Some (firsts_of groups fs)
+tells_first sure m groups fs telling are = tell_firsts m sure groups fs telling.have telling.tell are
 
 -- ---- folders that haven't failed
 
@@ -120,8 +161,8 @@ no_fault w v unrisen (locations.Folder q ∷ names) all (suc k) rose = no_fault 
 no_fault w v unrisen (locations.Http host port prefix ∷ names) all k rose = absurd (cc)
 
 -- so no group of them failed when it was asked for something
-pub none_failed_first : (lacks : Said → Type 0) (e : ℕ) (w v : Storage) → ((q : List ℕ) → FolderRose w.disk v.disk q → ⊥) → (s : ℕ) (groups : List (List Location)) → AreAlone groups → IsTrue (are_folders (stores_of groups)) → FailsFirstIn lacks e w v s groups → ⊥
-none_failed_first lacks e w v unrisen s groups alone all h = no_fault w v unrisen (stores_of groups) all s (group_failed lacks e w v s groups (alone_some groups alone) h)
+pub none_failed_first : (lacks : Said → Type 0) (e : ℕ) (w v : Storage) → ((q : List ℕ) → FolderRose w.disk v.disk q → ⊥) → (s : ℕ) (groups : List (List Location)) → HaveStores groups → IsTrue (are_folders (stores_of groups)) → FailsFirstIn lacks e w v s groups → ⊥
+none_failed_first lacks e w v unrisen s groups have all h = no_fault w v unrisen (stores_of groups) all s (group_failed lacks e w v s groups have h)
 
-pub none_lacking : (e : ℕ) (c : Query) (w v : Storage) → ((q : List ℕ) → FolderRose w.disk v.disk q → ⊥) → (s : ℕ) (groups : List (List Location)) → AreAlone groups → IsTrue (are_folders (stores_of groups)) → HaveLackedIn e c w v groups (refused.StoreFault s) → ⊥
-none_lacking e c w v unrisen s groups alone all h = no_fault w v unrisen (stores_of groups) all s (lacking_failed e c w v s groups (alone_some groups alone) h)
+pub none_lacking : (e : ℕ) (c : Query) (w v : Storage) → ((q : List ℕ) → FolderRose w.disk v.disk q → ⊥) → (s : ℕ) (groups : List (List Location)) → HaveStores groups → IsTrue (are_folders (stores_of groups)) → HaveLackedIn e c w v groups (refused.StoreFault s) → ⊥
+none_lacking e c w v unrisen s groups have all h = no_fault w v unrisen (stores_of groups) all s (lacking_failed e c w v s groups have h)

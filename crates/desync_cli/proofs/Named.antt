@@ -30,8 +30,7 @@ use Rattle.dsy_base.specs.Maps.{Map}
 use Rattle.image_commands.specs.Chop.{ImageChopped}
 use Rattle.print_commands.specs.Demo.{Rehearsed}
 use Rattle.command_groups.specs.Groups.{stores_of}
-use Rattle.extract_command.specs.declared.stores.Stores.{Stores}
-use Rattle.extract_command.specs.Extract.{Clearing, ImageMade, Into, NeverFail, NotRenamed, OutMade, Renamed, Seeds, beside, in_place, temporary_out}
+use Rattle.extract_command.specs.Extract.{Clearing, ExtractStores, ImageMade, Into, NeverFail, NotRenamed, OutMade, Renamed, Seeds, beside, in_place, temporary_out}
 use Rattle.image_commands.specs.Make.{ImageStored, IndexWritten, NotWritten, SizesJudged}
 use Rattle.store_commands.specs.VerifyIndex.{ImageChecked}
 use Rattle.cat_command.specs.Cat.{RangePut}
@@ -225,28 +224,28 @@ module _ (n : ℕ) where
   not_asked groups retries l w v ends.Memory h = omega arith
   not_asked groups retries l w v other h = absurd h
 
-  counted_tells : (groups : List (List Location)) (retries : ℕ) → AllShort n (map folder_name (stores_of groups)) → (l : Listing) → Tells n (IdsCounted groups retries l)
-  counted_tells groups retries all l w v o (inl h, consults, asks) = first_unreached (stores_of groups) all w.disk v.disk o h
-  counted_tells groups retries all l w v o (inr h, consults, asks) = not_asked groups retries l w v o h
+  counted_tells : (looks : Bool) (groups : List (List Location)) (retries : ℕ) → AllShort n (map folder_name (stores_of groups)) → (l : Listing) → Tells n (IdsCounted looks groups retries l)
+  counted_tells looks groups retries all l w v o (inl h, consults, asks) = first_unreached (stores_of groups) all w.disk v.disk o h
+  counted_tells looks groups retries all l w v o (inr h, consults, asks) = not_asked groups retries l w v o h
 
-  pub counted : (groups : List (List Location)) (retries : ℕ) → AllShort n (map folder_name (stores_of groups)) → (l : Listing) → Shorts n (IdsCounted groups retries l)
-  counted groups retries all l = record { short = counted_tells groups retries all l }
+  pub counted : (looks : Bool) (groups : List (List Location)) (retries : ℕ) → AllShort n (map folder_name (stores_of groups)) → (l : Listing) → Shorts n (IdsCounted looks groups retries l)
+  counted looks groups retries all l = record { short = counted_tells looks groups retries all l }
 
   pruned_tells : (keeps : List ℕ → Bool) (q : List ℕ) (held : Option (Map (List ℕ))) → Tells n (StorePruned keeps q held)
   pruned_tells keeps q held d e (ends.StoreFault k) h = omega arith
   pruned_tells keeps q held d e ends.Memory h = omega arith
   pruned_tells keeps q held d e other h = absurd h.0
 
-  range_tells : (groups : List (List Location)) (retries : ℕ) (l : Listing) (at m : ℕ) → Tells n (RangePut groups retries l at m)
-  range_tells groups retries l at m w v (ends.Missing k id) h = omega arith
-  range_tells groups retries l at m w v (ends.Damaged k id s shows) h = omega arith
-  range_tells groups retries l at m w v (ends.StoreFault s) h = omega arith
-  range_tells groups retries l at m w v ends.OutFault h = omega arith
-  range_tells groups retries l at m w v ends.Memory h = omega arith
-  range_tells groups retries l at m w v other h = absurd h.0
+  range_tells : (looks : Bool) (groups : List (List Location)) (retries : ℕ) (l : Listing) (at m : ℕ) → Tells n (RangePut looks groups retries l at m)
+  range_tells looks groups retries l at m w v (ends.Missing k id) h = omega arith
+  range_tells looks groups retries l at m w v (ends.Damaged k id s shows) h = omega arith
+  range_tells looks groups retries l at m w v (ends.StoreFault s) h = omega arith
+  range_tells looks groups retries l at m w v ends.OutFault h = omega arith
+  range_tells looks groups retries l at m w v ends.Memory h = omega arith
+  range_tells looks groups retries l at m w v other h = absurd h.0
 
-  pub range_put : (groups : List (List Location)) (retries : ℕ) (l : Listing) (at m : ℕ) → Shorts n (RangePut groups retries l at m)
-  range_put groups retries l at m = record { short = range_tells groups retries l at m }
+  pub range_put : (looks : Bool) (groups : List (List Location)) (retries : ℕ) (l : Listing) (at m : ℕ) → Shorts n (RangePut looks groups retries l at m)
+  range_put looks groups retries l at m = record { short = range_tells looks groups retries l at m }
 
   pub pruned : (keeps : List ℕ → Bool) (q : List ℕ) (held : Option (Map (List ℕ))) → Shorts n (StorePruned keeps q held)
   pruned keeps q held = record { short = pruned_tells keeps q held }
@@ -301,13 +300,13 @@ module _ (n : ℕ) where
   not_filled over w v (q ∷ indexes) all x y o (inr (l, listed, inl (fault, is, filled))) = omega (arith, ap (λ r. length (name_in r)) is, filled_by fault)
   not_filled over w v (q ∷ indexes) all x y o (inr (l, listed, inr (z, filled, rest))) = not_filled over w v indexes all.1 z y o rest
 
-  filled_tells : (groups : List (List Location)) (retries : ℕ) (cache : List ℕ) (most : ℕ) (indexes : List (List ℕ)) → AllShort n indexes → Tells n (IndexesFilled groups retries cache most indexes)
-  filled_tells groups retries cache most indexes all w v o h = not_filled _ w v indexes all h.held h.now o h.filled
+  filled_tells : (looks : Bool) (groups : List (List Location)) (retries : ℕ) (cache : List ℕ) (most : ℕ) (indexes : List (List ℕ)) → AllShort n indexes → Tells n (IndexesFilled looks groups retries cache most indexes)
+  filled_tells looks groups retries cache most indexes all w v o h = not_filled _ w v indexes all h.held h.now o h.filled
 
-  pub filled : (groups : List (List Location)) (retries : ℕ) (cache : List ℕ) (most : ℕ) (indexes : List (List ℕ)) → AllShort n indexes → Shorts n (IndexesFilled groups retries cache most indexes)
-  filled groups retries cache most indexes all = record { short = filled_tells groups retries cache most indexes all }
+  pub filled : (looks : Bool) (groups : List (List Location)) (retries : ℕ) (cache : List ℕ) (most : ℕ) (indexes : List (List ℕ)) → AllShort n indexes → Shorts n (IndexesFilled looks groups retries cache most indexes)
+  filled looks groups retries cache most indexes all = record { short = filled_tells looks groups retries cache most indexes all }
 
-  made_tells : (sure : NeverFail) (stores : Stores) (cache : Option (List ℕ)) (i : Into) (l : Listing) (x : Seeds) → Tells n (ImageMade sure stores cache i l x)
+  made_tells : (sure : NeverFail) (stores : ExtractStores) (cache : Option (List ℕ)) (i : Into) (l : Listing) (x : Seeds) → Tells n (ImageMade sure stores cache i l x)
   made_tells sure stores cache i l x w v (ends.Missing k id) h = omega arith
   made_tells sure stores cache i l x w v (ends.Damaged k id store shows) h = omega arith
   made_tells sure stores cache i l x w v (ends.StoreFault k) h = omega arith
@@ -315,7 +314,7 @@ module _ (n : ℕ) where
   made_tells sure stores cache i l x w v ends.Memory h = omega arith
   made_tells sure stores cache i l x w v other h = absurd h.0
 
-  pub made : (sure : NeverFail) (stores : Stores) (cache : Option (List ℕ)) (i : Into) (l : Listing) (x : Seeds) → Shorts n (ImageMade sure stores cache i l x)
+  pub made : (sure : NeverFail) (stores : ExtractStores) (cache : Option (List ℕ)) (i : Into) (l : Listing) (x : Seeds) → Shorts n (ImageMade sure stores cache i l x)
   made sure stores cache i l x = record { short = made_tells sure stores cache i l x }
 
   clearing_tells : (q : List ℕ) (step : Step Storage Unit) → Shorts n step → Tells n (Clearing q step)
@@ -330,7 +329,7 @@ module _ (n : ℕ) where
   pub renamed : (p q : List ℕ) → length p ≤ n → length q ≤ n → Shorts n (NotAsking (Renamed p q))
   renamed p q from to = record { short = renamed_tells p q from to }
 
-  pub out_made : (sure : NeverFail) (place : Bool) (stores : Stores) (cache : Option (List ℕ)) (out : List ℕ) (l : Listing) (x : Seeds) → length (temporary_out out) ≤ n → length out ≤ n → Shorts n (OutMade sure place stores cache out l x)
+  pub out_made : (sure : NeverFail) (place : Bool) (stores : ExtractStores) (cache : Option (List ℕ)) (out : List ℕ) (l : Listing) (x : Seeds) → length (temporary_out out) ≤ n → length out ≤ n → Shorts n (OutMade sure place stores cache out l x)
   out_made sure true stores cache out l x temporary le = on_sources (made sure stores cache (in_place out) l x)
   out_made sure false stores cache out l x temporary le = bound (on_sources (clearing (temporary_out out) _ (made sure stores cache (beside out) l x))) (λ u. on_sources (clearing (temporary_out out) _ (renamed (temporary_out out) out temporary le)))
 

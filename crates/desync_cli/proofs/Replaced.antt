@@ -8,7 +8,6 @@ use Rattle.command_words.specs.Locations.{index_place_of}
 use Rattle.command_words.specs.declared.command.Command.{Command}
 use Rattle.command_words.specs.declared.command.Command.TheVariants as commands
 use Rattle.command_groups.specs.Groups.{stores_of}
-use Rattle.extract_command.specs.declared.stores.Stores.{Stores}
 use Rattle.command_steps.proofs.Cached.{cache_reads}
 use Rattle.command_steps.specs.Cache.{CacheOpened}
 use Rattle.command_steps.specs.Seeds.{IndexesRead, image_name}
@@ -19,7 +18,7 @@ use Rattle.command_worlds.specs.Worlds.{OnDisk, Reads, World, world}
 use Rattle.desync_cli.proofs.Fair.{begun, if_any, if_some}
 use Rattle.desync_cli.specs.Commands.{CommandEnds, DesyncEnds, LeavesBehind, SureTypes, command_of}
 use Rattle.server_commands.specs.Serving.{Heard}
-use Rattle.extract_command.specs.Extract.{Assembled, Cleared, ExtractEnds, Into, KeepsIn, NeverFail, OutMade, Seeds, StopsSomewhere, beside, folder_of, never_fail, old_of, temporary_out}
+use Rattle.extract_command.specs.Extract.{Assembled, Cleared, ExtractEnds, ExtractStores, Into, KeepsIn, NeverFail, OutMade, Seeds, StopsSomewhere, beside, folder_of, never_fail, old_of, temporary_out}
 use Rattle.desync_cli.specs.Commands.{LeavesOut}
 use Rattle.dsy_base.proofs.Counts.{at_other}
 use Rattle.dsy_base.specs.Disk.{Disk}
@@ -75,7 +74,7 @@ module _ (tmp : List ℕ) where
         | inr set ↦ only_at (Some b) (Some a) at.0 (ap Some set)
       ]
 
-module _ (stores : Stores) (cache : Option (List ℕ)) (i : Into) (l : Listing) (x : Seeds) (w v : Storage) (told : is_some w.disk.files ≡ is_some w.disk.folders) (tells : is_some v.disk.files ≡ is_some w.disk.files) where
+module _ (stores : ExtractStores) (cache : Option (List ℕ)) (i : Into) (l : Listing) (x : Seeds) (w v : Storage) (told : is_some w.disk.files ≡ is_some w.disk.folders) (tells : is_some v.disk.files ≡ is_some w.disk.files) where
   abbrev d : Disk
   d = w.disk
 
@@ -115,7 +114,7 @@ left_same true out w v same = tt
 left_same false out w v same = left_over out w v (only_same (temporary_out out) w.disk.files v.disk.files same)
 
 -- what a refusal of the command leaves
-pub left_out : (sure : NeverFail) (stores : Stores) (cache : Option (List ℕ)) (seeds : List (List ℕ)) (place : Bool) (index out : List ℕ) (w v : World) (o : Outcome) → is_some w.disk.files ≡ is_some w.disk.folders → ExtractEnds sure stores cache seeds place index out w (Err o) v → LeavesOut place out w v
+pub left_out : (sure : NeverFail) (stores : ExtractStores) (cache : Option (List ℕ)) (seeds : List (List ℕ)) (place : Bool) (index out : List ℕ) (w v : World) (o : Outcome) → is_some w.disk.files ≡ is_some w.disk.folders → ExtractEnds sure stores cache seeds place index out w (Err o) v → LeavesOut place out w v
 left_out sure stores cache seeds true index out w v o told h = tt
 left_out sure stores cache seeds false index out w v o told (inl h) = left_same false out w v (got_reads index (index_place_of index) (storage_of w) (Err o) (storage_of v) h.0).files
 left_out sure stores cache seeds false index out w v o told (inr h) = go h.then where
@@ -174,7 +173,7 @@ left_out sure stores cache seeds false index out w v o told (inr h) = go h.then 
 -- ---- what the top call says
 
 left_of : (sure : SureTypes) (k : Heard) (c : Command) (w v : World) (o : Outcome) → is_some w.disk.files ≡ is_some w.disk.folders → CommandEnds sure k c w (Err o) v → LeavesBehind c w v
-left_of sure k (commands.Extract stores retries seeds cache place workers index target) w v o told h = left_out (never_fail sure.target k.never_fails) (record { groups = stores; retries = retries }) cache seeds place index target w v o told h
+left_of sure k (commands.Extract stores retries seeds cache place workers index target) w v o told h = left_out (never_fail sure.target k.never_fails) (record { groups = stores; retries = retries; sure = sure.looks.never_fail }) cache seeds place index target w v o told h
 left_of sure k other w v o told h = tt
 
 left_none : (c : Command) (w v : World) → v ≡ w → LeavesBehind c w v

@@ -61,14 +61,14 @@ command_short : (n : ℕ) (sure : SureTypes) (h : Heard) (c : Command) → HasSh
 command_short n sure h (commands.Make store sizes workers digest index image) f = bound (sizes_judged n sizes) (λ z. bound (on_disk (image_opened n image f.2)) (λ told. bound (on_disk (source_taken n _ store f.0)) (λ held. bound (on_sources (stored n digest z image told store held)) (λ bytes. on_disk (written n index bytes f.1)))))
 command_short n sure h (commands.VerifyIndex workers index image) f = bound (on_sources (index_got n index f.0)) (λ l. bound (on_disk (image_opened n image f.1)) (λ told. on_disk (checked n image l told)))
 command_short n sure h (commands.Chop store workers index image) f = bound (on_sources (index_got n index f.1)) (λ l. bound (on_disk (image_opened n image f.2)) (λ told. bound (on_disk (source_taken n _ store f.0)) (λ held. on_sources (chopped n l image told store held))))
-command_short n sure h (commands.Cache stores retries cache workers indexes) f = bound (on_disk (opened n (stores_of stores) f.0)) (λ u. bound (on_disk (cache_opened n (stores_of stores) (Some cache) (f.1, tt))) (λ u. on_sources (filled n stores retries cache workers indexes f.2)))
+command_short n sure h (commands.Cache stores retries cache workers indexes) f = bound (on_disk (opened n (stores_of stores) f.0)) (λ u. bound (on_disk (cache_opened n (stores_of stores) (Some cache) (f.1, tt))) (λ u. on_sources (filled n sure.looks.never_fail stores retries cache workers indexes f.2)))
 command_short n sure h (commands.ListChunks index) f = bound (on_sources (index_got n index f)) (λ l. on_out (printed n _))
-command_short n sure h (commands.Extract stores retries seeds cache in_place workers index target) f = bound (on_sources (index_got n index f.3)) (λ l. bound (on_disk (indexes_read n seeds f.1)) (λ ls. bound (on_disk (opened n (stores_of stores) f.0)) (λ u. bound (on_disk (cache_opened n (stores_of stores) cache (cached cache f.2))) (λ u. out_made n (never_fail sure.target h.never_fails) in_place (record { groups = stores; retries = retries }) cache target l _ f.4 f.5)))) where
+command_short n sure h (commands.Extract stores retries seeds cache in_place workers index target) f = bound (on_sources (index_got n index f.3)) (λ l. bound (on_disk (indexes_read n seeds f.1)) (λ ls. bound (on_disk (opened n (stores_of stores) f.0)) (λ u. bound (on_disk (cache_opened n (stores_of stores) cache (cached cache f.2))) (λ u. out_made n (never_fail sure.target h.never_fails) in_place (record { groups = stores; retries = retries; sure = sure.looks.never_fail }) cache target l _ f.4 f.5)))) where
   cached : (cache : Option (List ℕ)) → AllShort n (named cache) → AllShort n (elim cache [ None ↦ [] | Some q ↦ q ∷ [] ])
   cached None all = all
   cached (Some q) all = all
-command_short n sure h (commands.Cat stores retries offset size index) f = bound (on_sources (index_got n index f.1)) (λ l. bound (on_disk (opened n (stores_of stores) f.0)) (λ u. range_put n stores retries l offset (range_size l offset size)))
-command_short n sure h (commands.Info stores retries index) f = bound (on_sources (index_got n index f.1)) (λ l. bound (on_sources (counted n stores retries f.0 l)) (λ k. on_out (printed n _)))
+command_short n sure h (commands.Cat stores retries offset size index) f = bound (on_sources (index_got n index f.1)) (λ l. bound (on_disk (opened n (stores_of stores) f.0)) (λ u. range_put n sure.looks.never_fail stores retries l offset (range_size l offset size)))
+command_short n sure h (commands.Info stores retries index) f = bound (on_sources (index_got n index f.1)) (λ l. bound (on_sources (counted n sure.looks.never_fail stores retries f.0 l)) (λ k. on_out (printed n _)))
 command_short n sure h (commands.Verify store repair workers digest) f = bound (on_disk (taken n store f)) (λ held. verified n digest store repair held)
 command_short n sure h (commands.Prune store indexes) f = bound (indexes_got n 0 indexes f.1) (λ ls. bound (on_disk (taken n store f.0)) (λ held. on_disk (pruned n _ store held)))
 command_short n sure h (commands.Demo number size workers digest) f = bound (rehearsed n digest number size) (λ g. on_out (printed n _))

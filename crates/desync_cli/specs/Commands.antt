@@ -1,5 +1,5 @@
 -- What the words are to do, and what each command does.
-use Rattle.std.specs.Prelude.{◌≡◌, ◌≢◌, ◌&&◌, ℕ, Bool, true, false, not, is_some, if◌then◌else◌}
+use Rattle.std.specs.Prelude.{◌⊎◌, IsTrue, ◌≡◌, ◌≢◌, ◌&&◌, ℕ, Bool, true, false, not, is_some, if◌then◌else◌}
 use Rattle.std.specs.Prelude.{List, [], ◌∷◌, length, Option, Some, None, IfSome, Result, Ok, Err}
 use Rattle.std.specs.List.{All}
 use Rattle.caibx_codec.specs.Listing.{Listing}
@@ -65,13 +65,14 @@ CommandEnds sure h (commands.Make store sizes workers digest index image) = Make
 CommandEnds sure h (commands.VerifyIndex workers index image) = VerifyIndexEnds index image
 CommandEnds sure h (commands.Chop store workers index image) = ChopEnds store index image
 CommandEnds sure h (commands.Cache stores retries cache workers indexes) =
-    CacheEnds stores retries cache workers indexes
+    CacheEnds sure.looks.never_fail stores retries cache workers indexes
 CommandEnds sure h (commands.ListChunks index) = ListChunksEnds index
 CommandEnds sure h (commands.Extract stores retries seeds cache in_place workers index target) =
-    ExtractEnds (never_fail sure.target h.never_fails) (record { groups = stores; retries = retries }) cache seeds
-    in_place index target
-CommandEnds sure h (commands.Cat stores retries offset length index) = CatEnds stores retries offset length index
-CommandEnds sure h (commands.Info stores retries index) = InfoEnds stores retries index
+    ExtractEnds (never_fail sure.target h.never_fails)
+    (record { groups = stores; retries = retries; sure = sure.looks.never_fail }) cache seeds in_place index target
+CommandEnds sure h (commands.Cat stores retries offset length index) =
+    CatEnds sure.looks.never_fail stores retries offset length index
+CommandEnds sure h (commands.Info stores retries index) = InfoEnds sure.looks.never_fail stores retries index
 CommandEnds sure h (commands.Verify store repair workers digest) = VerifyEnds digest store repair
 CommandEnds sure h (commands.Prune store indexes) = PruneEnds store indexes
 CommandEnds sure h (commands.Demo number size workers digest) = DemoEnds digest number size
@@ -92,6 +93,11 @@ HasNoGroups (commands.Extract stores retries seeds cache in_place workers index 
 HasNoGroups (commands.Cat stores retries offset size index) = All (λ (g : List Location). length g ≡ 1) stores
 HasNoGroups (commands.Info stores retries index) = All (λ (g : List Location). length g ≡ 1) stores
 HasNoGroups other = Unit {0}
+
+-- each group of stores tells what it holds, where its stores are folders that tell: it is one store, or folders never
+-- fail
+abbrev pub GroupsTell : (looks_never_fail : Bool) → Command → Type 0
+GroupsTell looks_never_fail c = HasNoGroups c ⊎ IsTrue looks_never_fail
 
 -- what no outcome of it changes
 abbrev pub spares : Command → Spares

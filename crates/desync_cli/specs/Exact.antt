@@ -1,5 +1,6 @@
 -- What each command answers and leaves where nothing fails, by what stood before it. Want of memory is free.
-use Rattle.std.specs.Prelude.{◌≡◌, ◌==◌, ◌⊎◌, ◌++◌, ℕ, ◌<◌, Bool, true, false, List, [], ◌∷◌, length, map, IsSome}
+use Rattle.std.specs.Prelude.{◌≡◌, ◌==◌, ◌⊎◌, ◌++◌, ℕ, ◌<◌, Bool, true, false, List, [], ◌∷◌, length, map, drop}
+use Rattle.std.specs.Prelude.{IsSome}
 use Rattle.std.specs.Prelude.{IsTrue, Option, Some, None, IfSome, MatchOption}
 use Rattle.std.specs.List.{All, Any, Contains}
 use Rattle.assembler.specs.Assemblies.{IsLeast}
@@ -21,12 +22,14 @@ use Rattle.command_outcome.specs.declared.outcome.Outcome.{Outcome}
 use Rattle.command_outcome.specs.declared.outcome.Outcome.TheVariants as ends
 use Rattle.command_indexes.specs.Places.{are_files}
 use Rattle.command_indexes.specs.Blames.{Parts}
-use Rattle.command_groups.specs.Groups.{stores_of}
+use Rattle.command_groups.specs.Groups.{first_store, stores_of}
+use Rattle.command_groups.specs.Lacking.{LacksIn}
 use Rattle.command_steps.specs.InputFiles.{IsListed}
 use Rattle.command_steps.specs.Seeds.{image_name}
 use Rattle.command_steps.specs.Stores.{are_folders, folder_name}
 use Rattle.command_words.specs.declared.command.Command.{Command}
 use Rattle.command_words.specs.declared.command.Command.TheVariants as commands
+use Rattle.command_words.specs.declared.command.Location.{Location}
 use Rattle.command_words.specs.declared.command.Location.TheVariants as locations
 use Rattle.command_worlds.specs.Steps.{answer_of}
 use Rattle.command_worlds.specs.Worlds.{DiskQuiet, World}
@@ -53,7 +56,6 @@ use Rattle.image_store.specs.PutChunks.{HoldsAll, PutsFiles, Stands}
 use Rattle.index_server.specs.Talks.{index_protocol}
 use Rattle.locked_shelf.specs.Keepings.{KeepsOpening}
 use Rattle.server_commands.specs.ChunkServing.{chunk_protocol}
-use Rattle.store_chain.specs.Giving.{LacksAll}
 use Rattle.store_chain.specs.declared.refused.Refused.{Refused}
 use Rattle.store_chain.specs.declared.refused.Refused.TheVariants as refused
 use Rattle.cache_command.specs.Caching.{IsCached}
@@ -117,19 +119,27 @@ Makes kind s t index q f x other y = ⊥
 
 -- ---- chunks of an index
 
--- entry k is the first of which P doesn't hold, and the stores lack its chunk so
-pub record IsFirstLacking (l : Listing) (P : ℕ → Type 0) (stores : List (Map (List ℕ))) (k : ℕ) (id : ChunkId)
-    (r : Refused) : Type 0 where
+-- of what is listed of each store, what is listed of the first one of each group
+abbrev pub firsts_of : {X : Type 0} → List (List Location) → List X → List X
+firsts_of [] xs = []
+firsts_of (g ∷ groups) [] = []
+firsts_of (g ∷ groups) (x ∷ xs) = x ∷ firsts_of groups (drop (length g) (x ∷ xs))
+
+-- entry k is the first of which P doesn't hold, and the groups of stores, which hold these, lack its chunk so. `number`
+-- is the number of a store by that of its group
+pub record IsFirstLacking (number : ℕ → ℕ) (l : Listing) (P : ℕ → Type 0) (stores : List (Map (List ℕ))) (k : ℕ)
+    (id : ChunkId) (r : Refused) : Type 0 where
   pub listed : k < count_of l
   pub least : IsLeast P k
   pub id_is : id.0 ≡ id_of l k
-  pub lacks : LacksAll (chunk_of (kind_of l) id (size_of l k)) stores r
+  pub lacks : LacksIn number (chunk_of (kind_of l) id (size_of l k)) stores r
 
 -- the outcome names it
-abbrev pub NamesLacking : Listing → (ℕ → Type 0) → List (Map (List ℕ)) → Outcome → Type 0
-NamesLacking l P stores (ends.Missing k id) = IsFirstLacking l P stores k id refused.Missing
-NamesLacking l P stores (ends.Damaged k id s shows) = IsFirstLacking l P stores k id (refused.Damaged s shows)
-NamesLacking l P stores other = ⊥
+abbrev pub NamesLacking : (ℕ → ℕ) → Listing → (ℕ → Type 0) → List (Map (List ℕ)) → Outcome → Type 0
+NamesLacking number l P stores (ends.Missing k id) = IsFirstLacking number l P stores k id refused.Missing
+NamesLacking number l P stores (ends.Damaged k id s shows) =
+    IsFirstLacking number l P stores k id (refused.Damaged s shows)
+NamesLacking number l P stores other = ⊥
 
 -- a folder's files f have become g: under each id stands what stood there, or its chunk, which is listed and which a
 -- store holds; and each file stays that is neither a chunk nor a temporary one
@@ -154,10 +164,11 @@ pub record IsListedAmong (files : Map (List ℕ)) (indexes : List (List ℕ)) (k
 
 -- the indexes in order: the cache, which held m, or a store gives each entry's chunk; or the first index that can't be
 -- read is named, or the first entry whose chunk isn't given. What is left isn't told
-abbrev pub FillsInOrder : Map (List ℕ) → List (Map (List ℕ)) → List (List ℕ) → Ending
-FillsInOrder m stores [] = Unchanged ends.Done
-FillsInOrder m stores (q ∷ indexes) = index_at q (λ l x o y. NamesLacking l (IsGivenBy l m stores) stores o
-    ⊎ (((i : ℕ) → i < count_of l → IsGivenBy l m stores i) × FillsInOrder m stores indexes x o y))
+abbrev pub FillsInOrder : (ℕ → ℕ) → Map (List ℕ) → List (Map (List ℕ)) → List (List ℕ) → Ending
+FillsInOrder number m stores [] = Unchanged ends.Done
+FillsInOrder number m stores (q ∷ indexes) = index_at q (λ l x o y.
+    NamesLacking number l (IsGivenBy l m stores) stores o
+    ⊎ (((i : ℕ) → i < count_of l → IsGivenBy l m stores i) × FillsInOrder number m stores indexes x o y))
 
 -- of each id that is listed with both kinds of digest, these stores together give chunks of one kind
 abbrev pub GiveOneKind : (DigestKind → List ℕ → ℕ → Type 0) → List (Map (List ℕ)) → Type 0
@@ -166,11 +177,11 @@ GiveOneKind Listed maps = (id : List ℕ) (j k : DigestKind) (n m : ℕ) → Lis
 
 -- the cache was filled by the indexes. Cache and stores give each id that these list with several sizes, or with both
 -- kinds of digest, with one
-abbrev pub Caches : List (Map (List ℕ)) → List ℕ → List (List ℕ) → Map (List ℕ) → Ending
-Caches stores q indexes f x o y =
+abbrev pub Caches : (ℕ → ℕ) → List (Map (List ℕ)) → List ℕ → List (List ℕ) → Map (List ℕ) → Ending
+Caches number stores q indexes f x o y =
     ((kind : DigestKind) → GiveOneSize (IsListedAmong x.files indexes kind) kind (chunks f ∷ stores))
     → GiveOneKind (IsListedAmong x.files indexes) (chunks f ∷ stores)
-    → FillsInOrder (chunks f) stores indexes x o x
+    → FillsInOrder number (chunks f) stores indexes x o x
     × (o ≡ ends.Done → IsCached (IsListed x.files) x.folders y.folders q indexes)
     × ((g : Map (List ℕ)) × (y ≡ with_folder x q g) × GainsListed (IsListedAmong x.files indexes) stores f g)
 
@@ -191,9 +202,10 @@ CacheGains (Some c) l stores before after = (f : Map (List ℕ)) × (before c �
     × (g : Map (List ℕ)) × (after ≡ at_name before c (Some g)) × GainsListed (IsListedBy l) stores f g
 
 -- what an assembly of OUT answers and leaves, where P says of each entry whether it can be obtained
-pub record IsAssembledAs (l : Listing) (P : ℕ → Type 0) (stores : List (Map (List ℕ))) (cache : Option (List ℕ))
-    (in_place : Bool) (out : List ℕ) (x : Contents) (o : Outcome) (y : Contents) : Type 0 where
-  pub answer : ((o ≡ ends.Done) × ((i : ℕ) → i < count_of l → P i)) ⊎ NamesLacking l P stores o
+pub record IsAssembledAs (number : ℕ → ℕ) (l : Listing) (P : ℕ → Type 0) (stores : List (Map (List ℕ)))
+    (cache : Option (List ℕ)) (in_place : Bool) (out : List ℕ) (x : Contents) (o : Outcome) (y : Contents)
+    : Type 0 where
+  pub answer : ((o ≡ ends.Done) × ((i : ℕ) → i < count_of l → P i)) ⊎ NamesLacking number l P stores o
   pub image : List ℕ
   pub size : length image ≡ image_length l
   pub filled : AreFilled l P (base_of x.files (into in_place out) l) image
@@ -202,11 +214,11 @@ pub record IsAssembledAs (l : Listing) (P : ℕ → Type 0) (stores : List (Map 
   pub printed : y.printed ≡ x.printed
 
 -- so it is. If there is a cache, it and the stores give each id that INDEX lists with several sizes with one
-abbrev pub Extracts : Listing → Seeds → List (Map (List ℕ)) → List (Map (List ℕ)) → Option (List ℕ) → Bool → List ℕ
-    → Ending
-Extracts l z fs cs cache in_place out x o y =
+abbrev pub Extracts : (ℕ → ℕ) → Listing → Seeds → List (Map (List ℕ)) → List (Map (List ℕ)) → Option (List ℕ) → Bool
+    → List ℕ → Ending
+Extracts number l z fs cs cache in_place out x o y =
     (IsSome cache → GiveOneSize (IsListedAs l) (kind_of l) (map chunks cs ++ map chunks fs))
-    → IsAssembledAs l (HadFrom x.files (into in_place out) l z cs fs) (map chunks fs) cache in_place out x o y
+    → IsAssembledAs number l (HadFrom x.files (into in_place out) l z cs fs) (map chunks fs) cache in_place out x o y
 
 -- ---- connections
 
@@ -271,9 +283,10 @@ IsGivenIn l at n stores i = IsCovered l at n i → SomeGivesEntry l i stores
 
 -- the range of the image of the stores is printed; or the first entry that it covers and that no store gives is named,
 -- and the bytes before it are printed. They are others only where two unequal pieces have one digest
-abbrev pub PrintsRange : Listing → ℕ → ℕ → List (Map (List ℕ)) → Ending
-PrintsRange l at n stores x o y =
-    (((o ≡ ends.Done) × ((i : ℕ) → IsGivenIn l at n stores i)) ⊎ NamesLacking l (IsGivenIn l at n stores) stores o)
+abbrev pub PrintsRange : (ℕ → ℕ) → Listing → ℕ → ℕ → List (Map (List ℕ)) → Ending
+PrintsRange number l at n stores x o y =
+    (((o ≡ ends.Done) × ((i : ℕ) → IsGivenIn l at n stores i))
+    ⊎ NamesLacking number l (IsGivenIn l at n stores) stores o)
     × (text : List ℕ) × (length text ≡ bytes_put l at n o)
     × IsRange l at (bytes_put l at n o) (image_of_stores l stores) text × (y ≡ with_text x text)
 
@@ -307,24 +320,25 @@ EndingOf h (commands.VerifyIndex workers index image) = do
 EndingOf h (commands.Cache stores retries cache workers indexes) = do
   fs ← folders_at (stores_of stores)
   f ← folder_at cache
-  Caches (map chunks fs) cache indexes f
+  Caches (first_store stores) (map chunks (firsts_of stores fs)) cache indexes f
 EndingOf h (commands.Extract stores retries seeds cache in_place workers index target) = do
   l ← index_at index
   ls ← indexes_at 0 seeds
   fs ← folders_at (stores_of stores)
   cs ← folders_at (map locations.Folder (folder_of cache))
-  Extracts l (record { images = map image_name seeds; listings = ls }) fs cs cache in_place target
+  Extracts (first_store stores) l (record { images = map image_name seeds; listings = ls }) (firsts_of stores fs) cs
+      cache in_place target
 EndingOf h (commands.ListChunks index) = do
   l ← index_at index
   PrintsText (text_of_chunks l)
 EndingOf h (commands.Cat stores retries offset length index) = do
   l ← index_at index
   fs ← folders_at (stores_of stores)
-  PrintsRange l offset (range_size l offset length) (map chunks fs)
+  PrintsRange (first_store stores) l offset (range_size l offset length) (map chunks (firsts_of stores fs))
 EndingOf h (commands.Info stores retries index) = do
   l ← index_at index
   fs ← folders_at (stores_of stores)
-  PrintsText (text_of_info l (in_stores l (map chunks fs)))
+  PrintsText (text_of_info l (in_stores l (map chunks (firsts_of stores fs))))
 EndingOf h (commands.Verify store repair workers digest) = do
   f ← folder_at store
   Verifies digest store repair f

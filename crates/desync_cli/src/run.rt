@@ -9,7 +9,7 @@ ghost use Rattle.command_words.specs.declared.command.Command.{Command};
 ghost use Rattle.desync_cli.specs.AtHand.{EndsAtHand};
 ghost use Rattle.desync_cli.specs.Unfailed.{IndexTaken, NothingFailed, RepliesTaken};
 ghost use Rattle.desync_cli.specs.Commands.{Achieves, DesyncEnds, CommandEnds, TellsRefusal, command_of, listens};
-ghost use Rattle.desync_cli.specs.Commands.{HasNoGroups, parts, sure_types};
+ghost use Rattle.desync_cli.specs.Commands.{GroupsTell, parts, sure_types};
 ghost use Rattle.desync_cli.specs.Commands.{LeavesBehind, usage_refusal, spares};
 ghost use Rattle.desync_cli.specs.Contents.{Contents};
 ghost use Rattle.desync_cli.specs.Exact.{IsExact, IsFaultless};
@@ -224,9 +224,10 @@ where
     ensures at_hand { DiskQuiet (F.disk files.old) (F.disk files.new) → IfSome (command_of (map string_bytes words.now))
         (λ c. EndsAtHand c (F.disk files.old) result.outcome) }
 
-    // Where nothing fails and each group is one store, the outcome and what stands afterwards are exactly those of the
-    // command, unless there was no memory.
-    ensures exactly { IfSome (command_of (map string_bytes words.now)) (λ c. HasNoGroups c → (x : Contents) →
+    // Where nothing fails, and each group is one store or folders never fail by their type, the outcome and what stands
+    // afterwards are exactly those of the command, unless there was no memory.
+    ensures exactly { IfSome (command_of (map string_bytes words.now)) (λ c. GroupsTell F.Look.never_fails c →
+        (x : Contents) →
         IsFaultless (parts (heard F.Folder.never_fails (L.state listen.old) (L.state listen.new)) c)
         (world (F.disk files.old) (D.state dial.old) (O.output out.old))
         (world (F.disk files.new) (D.state dial.new) (O.output out.new)) x

@@ -187,6 +187,8 @@ impl<F: Look> Store for DirStore<F> {
 
     ghost never_fails = { F.never_fails };
 
+    ghost told_never_fail = { F.never_fails };
+
     ghost may_lack_memory = { F.may_lack_memory };
 
     fn get(&mut self, id: &ChunkId, out: &mut [u8]) -> Result<usize, GetFault> {
@@ -207,6 +209,8 @@ impl<F: Look> Store for DirStore<F> {
     ghost told = { λ s t. told_map F.tells (F.files s) (F.told s) t };
 
     ghost sure = { λ s t. F.sure s t };
+
+    ghost steady = { λ s t _. F.sure s t };
 }
 
 impl<F: Folder> StoreWrite for DirStore<F> {

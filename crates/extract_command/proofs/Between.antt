@@ -36,7 +36,7 @@ use Rattle.extract_command.proofs.LentKits.{all_given_back, given_folders as kit
 use Rattle.extract_command.proofs.Had.{all_held}
 use Rattle.extract_command.proofs.Shelved.{AreOfFolders, IsTold, cache_filled, cached_there, name_in}
 use Rattle.extract_command.proofs.Wrote.{read_with, wrote_on, wrote_read, wrote_then}
-use Rattle.extract_command.specs.Extract.{Assembled, FillsCache, GetsWants, Into, NeverFail, Seeds, answer_of_taking}
+use Rattle.extract_command.specs.Extract.{Assembled, ExtractStores, FillsCache, GetsWants, Into, NeverFail, Seeds, answer_of_taking, extract_stores}
 use Rattle.extract_command.specs.Held.{IsGivenBack, groups_of}
 use Rattle.extract_command.specs.Kits.{AreOpened, IsKitOpened, kit_groups}
 use Rattle.extract_command.specs.declared.held.Held.{Held}
@@ -81,27 +81,27 @@ module _ {L W V D K : Type 0} (look : LookWords L) (folder : LookWords W) (view 
 
 -- what the stores of kits hold is in the folders that they were opened from
 of_folders : {L V D K : Type 0} (look : LookWords L) (view : ViewWords V) (state : D → DialState) (all : List (Kit (Grouped (AnyStore L D K)) V)) (stores : Stores) (images : List (List ℕ)) (d b : Disk) → AreOpened look view state d b stores images all
-    → (o : Option (Map (Map (List ℕ)))) → d.folders ≡ o → IfSome o (AreOfFolders (group_words look state) (all_stores all) stores)
+    → (o : Option (Map (Map (List ℕ)))) → d.folders ≡ o → IfSome o (AreOfFolders (group_words look state) (all_stores all) (extract_stores look.never_fails stores))
 of_folders look view state all stores images d b are None is = tt
 of_folders look view state all stores images d b are (Some m) is = λ fs there id c held. all_held look view state d b stores (record { images = images; listings = [] }) m is fs there all are id c held
 
 -- it was filled from the stores of these kits, or stands as before
 pub fills : {L V D K : Type 0} (look : LookWords L) (view : ViewWords V) (state : D → DialState) (all : List (Kit (Grouped (AnyStore L D K)) V)) (stores : Stores) (images : List (List ℕ)) (l : Listing) (o p : Option Shelf) (cache : Option (List ℕ)) (d b e : Disk) → name_in o ≡ cache → IsTold o d.folders
-    → AreOpened look view state (with_cache o d) b stores images all → Stocked (TakesListed (group_words look state) l (all_stores all)) o p → Writes (with_cache p d) e → FillsCache stores cache l (with_cache o d) e
+    → AreOpened look view state (with_cache o d) b stores images all → Stocked (TakesListed (group_words look state) l (all_stores all)) o p → Writes (with_cache p d) e → FillsCache (extract_stores look.never_fails stores) cache l (with_cache o d) e
 fills look view state all stores images l o p cache d b e named told are stocked wrote = record {
-  folders = cache_filled (group_words look state) (all_stores all) stores l o p cache d.folders (with_cache o d) e named refl wrote.folders told stocked (of_folders look view state all stores images (with_cache o d) b are (with_cache o d).folders refl);
+  folders = cache_filled (group_words look state) (all_stores all) (extract_stores look.never_fails stores) l o p cache d.folders (with_cache o d) e named refl wrote.folders told stocked (of_folders look view state all stores images (with_cache o d) b are (with_cache o d).folders refl);
   counts = wrote.counts;
   folder_counts = wrote.folder_counts;
 }
 
 -- nothing was added to it
-pub unfilled : {L V D : Type 0} (K : Type 0) (look : LookWords L) (view : ViewWords V) (state : D → DialState) (stores : Stores) (l : Listing) (o : Option Shelf) (cache : Option (List ℕ)) (d e : Disk) → name_in o ≡ cache → IsTold o d.folders → Writes (with_cache o d) e → FillsCache stores cache l (with_cache o d) e
+pub unfilled : {L V D : Type 0} (K : Type 0) (look : LookWords L) (view : ViewWords V) (state : D → DialState) (stores : Stores) (l : Listing) (o : Option Shelf) (cache : Option (List ℕ)) (d e : Disk) → name_in o ≡ cache → IsTold o d.folders → Writes (with_cache o d) e → FillsCache (extract_stores look.never_fails stores) cache l (with_cache o d) e
 unfilled {L} {V} {D} K look view state stores l o cache d e named told wrote =
     fills look view state [] stores [] l o o cache d d e named told (All-nil (IsKitOpened {L = L} {V = V} {D = D} {K = K} look view state (with_cache o d) d stores [])) (stocked_none (TakesListed (group_words {L = L} {D = D} {K = K} look state) l []) o) wrote
 
 -- ---- where it ended before OUT was written
 
-module _ (stores : Stores) (cache : Option (List ℕ)) (out : Into) (l : Listing) (z : Seeds) (o : Option Shelf) (k : DialState) (d e : Disk) where
+module _ (stores : ExtractStores) (cache : Option (List ℕ)) (out : Into) (l : Listing) (z : Seeds) (o : Option Shelf) (k : DialState) (d e : Disk) where
   abbrev was : Storage
   was = storage (with_cache o d) k
 

@@ -8,10 +8,12 @@ use Rattle.chunk_sources.specs.Sources.{views_of}
 use Rattle.chunk_sources.specs.Wants.{Task}
 use Rattle.chunk_sources.specs.declared.kit.Kit.{Kit}
 use Rattle.chunk_store.specs.Folders.{chunks}
-use Rattle.command_groups.proofs.Stand.{groups_hold, groups_tell}
+use Rattle.command_groups.proofs.Seen.{groups_hold, groups_tell}
+use Rattle.command_groups.proofs.Stand.{fresh_first}
 use Rattle.command_groups.proofs.Words.{group_words}
 use Rattle.command_groups.specs.Groups.{group_files}
 use Rattle.command_groups.specs.Opened.{told_files}
+use Rattle.command_steps.specs.AnyStores.{source_faults}
 use Rattle.command_steps.specs.declared.any_store.AnyStore.{AnyStore}
 use Rattle.command_worlds.specs.Worlds.{FileRose}
 use Rattle.dsy_base.specs.Bytes.{resized}
@@ -64,7 +66,7 @@ one_of P (suc n) xs any = elim (either P xs (times n xs) any) [
   | inr later ↦ one_of P n xs later
 ]
 
-module _ {L V D K : Type 0} (look : LookWords L) (view : ViewWords V) (state : D → DialState) (d b : Disk) (names : Stores) (x : Seeds) (n : Map (Map (List ℕ))) (y : d.folders ≡ Some n) (fs : List (Map (List ℕ))) (there : map (group_files n) names.groups ≡ map Some fs) where
+module _ {L V D K : Type 0} (look : LookWords L) (view : ViewWords V) (state : D → DialState) (d b : Disk) (names : Stores) (x : Seeds) (n : Map (Map (List ℕ))) (y : d.folders ≡ Some n) (fs : List (Map (List ℕ))) (there : map (group_files look.never_fails n) names.groups ≡ map Some fs) where
   abbrev IsOpen : Kit (Grouped (AnyStore L D K)) V → Type 0
   IsOpen k = IsKitOpened look view state d b names x.images k
 
@@ -74,9 +76,11 @@ module _ {L V D K : Type 0} (look : LookWords L) (view : ViewWords V) (state : D
   -- its groups hold the chunks of the folders
   kit_holds : (k : Kit (Grouped (AnyStore L D K)) V) → IsOpen k → map holds k.chain.stores ≡ map Some (map chunks fs)
   kit_holds k is =
-      let told : map (told_files look.files) k.chain.stores ≡ map (group_files n) names.groups =
-      subst (λ o. IfSome o (λ m. map (told_files look.files) k.chain.stores ≡ map (group_files m) names.groups)) y (groups_tell look.files d.folders k.chain.stores names.groups is.found) in
-      groups_hold look.files k.chain.stores fs (told ∙ there)
+      let sure = look.never_fails in
+      let first = fresh_first (source_faults look.faults state) names.retries k.chain.stores is.fresh in
+      let told : map (told_files sure look.files) k.chain.stores ≡ map (group_files sure n) names.groups =
+      subst (λ o. IfSome o (λ m. map (told_files sure look.files) k.chain.stores ≡ map (group_files sure m) names.groups)) y (groups_tell sure look.files d.folders k.chain.stores names.groups first is.found) in
+      groups_hold sure look.files k.chain.stores fs (told ∙ there)
 
   all_hold : (kits : List (Kit (Grouped (AnyStore L D K)) V)) → All IsOpen kits → map holds (all_stores kits) ≡ map Some (times (length kits) (map chunks fs))
   all_hold [] are = refl

@@ -34,8 +34,7 @@ use Rattle.command_worlds.specs.Worlds.{FileRose}
 use Rattle.extract_command.proofs.Assembled.{AllLack, LackingOver, LostAs, OthersLack, StoreAs, TargetAs}
 use Rattle.command_steps.proofs.Lacked.{same_length}
 use Rattle.extract_command.proofs.Seeded.{had_failed, label_of}
-use Rattle.extract_command.specs.Extract.{CacheLacksEntry, Into, Seeds, StopsFailed}
-use Rattle.extract_command.specs.declared.stores.Stores.{Stores}
+use Rattle.extract_command.specs.Extract.{CacheLacksEntry, ExtractStores, Into, Seeds, StopsFailed}
 use Rattle.dsy_base.specs.Bytes.{Held, resized}
 use Rattle.dsy_base.specs.Counts.{Rose}
 use Rattle.dsy_base.specs.Disk.{Disk}
@@ -151,7 +150,7 @@ module _ {S : Type 0} (location : S → List Location) (said : S → Said) (coun
 
 -- ---- what a lost entry tells
 
-module _ {S V : Type 0} (store : StoreWords S) (location : S → List Location) (view : ViewWords V) (t : Task) (w v : Storage) (stores : Stores) (cache : Option (List ℕ)) (out : Into) (seeds : Seeds) (t0 : Option (List ℕ)) (a b : origins.Sources S V) where
+module _ {S V : Type 0} (store : StoreWords S) (location : S → List Location) (view : ViewWords V) (t : Task) (w v : Storage) (stores : ExtractStores) (cache : Option (List ℕ)) (out : Into) (seeds : Seeds) (t0 : Option (List ℕ)) (a b : origins.Sources S V) where
   abbrev d : Disk
   d = w.disk
 
@@ -203,7 +202,7 @@ module _ {S V : Type 0} (store : StoreWords S) (location : S → List Location) 
           all = stood location store.said store.faults stores.retries w v r.after b.chain.stores (located b.chain.stores kept.places ∙ sym here) r.since.says r.since.never_fall stand;
         }
 
-    module _ (n : Map (Map (List ℕ))) (held : (fs : List (Map (List ℕ))) → map (group_files n) stores.groups ≡ map Some fs → map store.holds a.chain.stores ≡ map Some (map chunks fs)) (rose : Rose a.faults b.faults → FileRose d e out.name) where
+    module _ (n : Map (Map (List ℕ))) (held : (fs : List (Map (List ℕ))) → map (group_files stores.sure n) stores.groups ≡ map Some fs → map store.holds a.chain.stores ≡ map Some (map chunks fs)) (rose : Rose a.faults b.faults → FileRose d e out.name) where
       lacks_over : (o : List ℕ) (u : Lost) (h : IsLostHere u) → (RightAlike l (resized o (image_length l)) u.entry → Rose a.faults b.faults) → LackingOver w v stores cache out l seeds n o u.entry u.id u.refused
       lacks_over o u h copies =
           let s = stood_at u h in (

@@ -11,8 +11,7 @@ use Rattle.command_steps.specs.Sources.{Storage, storage}
 use Rattle.command_worlds.specs.Worlds.{Step, World, world}
 use Rattle.extract_command.proofs.Seeded.{zipped_many}
 use Rattle.extract_command.specs.Held.{AllReached}
-use Rattle.extract_command.specs.declared.stores.Stores.{Stores}
-use Rattle.extract_command.specs.Extract.{ClearedAfter, Clearing, ExtractEnds, NeverFail, OutMade, temporary_out}
+use Rattle.extract_command.specs.Extract.{ClearedAfter, Clearing, ExtractEnds, ExtractStores, NeverFail, OutMade, temporary_out}
 use Rattle.dsy_base.specs.Disk.{Disk, Output}
 use Rattle.dsy_base.specs.Links.{DialState}
 use Rattle.extract_plan.specs.Deal.{Deal}
@@ -40,7 +39,7 @@ passed_any step next w (Ok b) v h = h
 passed_any step next w (Err o) v h = inr h
 
 -- OUT was made so after the steps before it
-pub ends_with : (sure : NeverFail) (stores : Stores) (cache : Option (List ℕ)) (seeds : List (List ℕ)) (place : Bool) (index out : List ℕ) (l : Listing) (ls : List Listing) (d b c m e : Disk) (i k j : DialState) (p : Output) (r : Result Unit Outcome)
+pub ends_with : (sure : NeverFail) (stores : ExtractStores) (cache : Option (List ℕ)) (seeds : List (List ℕ)) (place : Bool) (index out : List ℕ) (l : Listing) (ls : List Listing) (d b c m e : Disk) (i k j : DialState) (p : Output) (r : Result Unit Outcome)
     → IndexGot index (storage d i) (Ok l) (storage b k) → IndexesRead seeds b (Ok ls) c → AllReached stores.groups cache c (Ok tt) m → OutMade sure place stores cache out l (record { images = map image_name seeds; listings = ls }) (world m k p) r (world e j p)
     → ExtractEnds sure stores cache seeds place index out (world d i p) r (world e j p)
 ends_with sure stores cache seeds place index out l ls d b c m e i k j p r listed read reached made =
@@ -61,7 +60,7 @@ ends_with sure stores cache seeds place index out l ls d b c m e i k j p r liste
     })
 
 -- the stores or the cache weren't reached after the indexes were read
-pub ends_unreached : (sure : NeverFail) (stores : Stores) (cache : Option (List ℕ)) (seeds : List (List ℕ)) (place : Bool) (index out : List ℕ) (l : Listing) (ls : List Listing) (d b c e : Disk) (i k : DialState) (p : Output) (o : Outcome)
+pub ends_unreached : (sure : NeverFail) (stores : ExtractStores) (cache : Option (List ℕ)) (seeds : List (List ℕ)) (place : Bool) (index out : List ℕ) (l : Listing) (ls : List Listing) (d b c e : Disk) (i k : DialState) (p : Output) (o : Outcome)
     → IndexGot index (storage d i) (Ok l) (storage b k) → IndexesRead seeds b (Ok ls) c → AllReached stores.groups cache c (Err o) e → ExtractEnds sure stores cache seeds place index out (world d i p) (Err o) (world e k p)
 ends_unreached sure stores cache seeds place index out l ls d b c e i k p o listed read refused =
     inr (record {

@@ -23,7 +23,8 @@ use Rattle.command_steps.proofs.Cached.{given_adds, given_folders}
 use Rattle.command_steps.proofs.Dialed.{dials_none, dials_twice}
 use Rattle.command_groups.proofs.Given.{group_given_earlier, group_given_longer}
 use Rattle.command_groups.proofs.Quiet.{groups_quiet}
-use Rattle.command_groups.proofs.Stand.{active_inside, folders_still, found_after, fresh_counts, groups_hold, groups_stand_still, groups_tell}
+use Rattle.command_groups.proofs.Seen.{first_active, groups_hold, groups_tell}
+use Rattle.command_groups.proofs.Stand.{active_inside, folders_still, found_after, fresh_counts, fresh_first, groups_stand_still}
 use Rattle.command_groups.proofs.Standing.{GroupStands, all_groups_stand}
 use Rattle.command_groups.proofs.Words.{group_words}
 use Rattle.command_groups.specs.Asking.{GroupsDialed, WorkersGroupsDialed, with_retries}
@@ -61,7 +62,7 @@ use Rattle.extract_command.proofs.Spared.{cache_gives}
 use Rattle.extract_command.proofs.Tasks.{task}
 use Rattle.extract_command.proofs.Unused.{none_reached}
 use Rattle.extract_command.proofs.Wrote.{wrote_back, wrote_on}
-use Rattle.extract_command.specs.Extract.{Assembled, CacheSpares, CanBeHad, GetsWants, Into, Seeds, Undisturbed, answer_of_assembly, folder_of, never_fail, old_of}
+use Rattle.extract_command.specs.Extract.{Assembled, CacheSpares, CanBeHad, ExtractStores, GetsWants, Into, Seeds, Undisturbed, answer_of_assembly, extract_stores, folder_of, never_fail, old_of}
 use Rattle.extract_command.specs.Kits.{AreGivenBack, AreOpened, IsKitOpened}
 use Rattle.extract_command.specs.declared.stores.Stores.{Stores}
 use Rattle.extract_plan.specs.Deal.{Deal, IsPlan, first_of, want_id}
@@ -173,6 +174,12 @@ module _ {L V D K : Type 0} (look : LookWords L) (view : ViewWords V) (state : D
   abbrev v : Storage
   v = storage e k1
 
+  abbrev sure : Bool
+  sure = look.never_fails
+
+  abbrev sources : ExtractStores
+  sources = extract_stores sure names
+
   abbrev words : StoreWords (Grouped (AnyStore L D K))
   words = group_words look state
 
@@ -267,7 +274,7 @@ module _ {L V D K : Type 0} (look : LookWords L) (view : ViewWords V) (state : D
     gives : (w : ℕ) → IsSomeAnd cache (λ c. CacheSpares d e c l (want_id l x.deal w) (size_of l (first_of x.deal w))) → CacheGives words l (all_stores (x.k ∷ x.more)) (want_id l x.deal w) (size_of l (first_of x.deal w)) e0 x.e1
     gives w = cache_gives words (all_stores (x.k ∷ x.more)) d e l (want_id l x.deal w) (size_of l (first_of x.deal w)) e0 x.e1 cache name_now there_before shelf_rose
 
-    pub run_asks : GetsWants (never_fail never cache_never) w v names cache out l z
+    pub run_asks : GetsWants (never_fail never cache_never) w v sources cache out l z
     run_asks = record {
       workers = length (x.k ∷ x.more);
       plan = x.deal;
@@ -301,7 +308,7 @@ module _ {L V D K : Type 0} (look : LookWords L) (view : ViewWords V) (state : D
     location = locations_in look.place
 
     abbrev files : Grouped (AnyStore L D K) → Option (Map (List ℕ))
-    files = told_files look.files
+    files = told_files sure look.files
 
     one : IsKitOpened look view state d x.b names images x.k
     one = x.all 0 x.k (first_less x.k x.more)
@@ -332,14 +339,17 @@ module _ {L V D K : Type 0} (look : LookWords L) (view : ViewWords V) (state : D
     tries = kit_tries look view state t d x.b e names never cache_never x.t0 0 x.k x.j before after images one used
 
     found_now : IfSome d.folders (λ m. map (files_in look.files) now ≡ map (map (location_files m)) names.groups)
-    found_now = found_after look.files d.folders was now names.groups (folders_still look.place look.files state (IsListedGet l) was now (groups_stand_still look.place was now used.stores.places) used.stores.files used.stores.sends) one.found
+    found_now = found_after look.files d.folders was now names.groups (folders_still look.place sure look.files state (IsListedGet l) was now (groups_stand_still look.place was now used.stores.places) used.stores.files used.stores.sends) one.found
 
     stand : All (GroupStands location words.said words.faults names.retries w v) now
-    stand = all_groups_stand look.files look.place look.faults state names.retries w v now names.groups now_at found_now tries given_stores
+    stand = all_groups_stand sure look.files look.place look.faults state names.retries w v now names.groups now_at found_now tries given_stores
 
     -- what the groups tell
-    told : IfSome d.folders (λ m. map files was ≡ map (group_files m) names.groups)
-    told = groups_tell look.files d.folders was names.groups one.found
+    told : IfSome d.folders (λ m. map files was ≡ map (group_files sure m) names.groups)
+    told = groups_tell sure look.files d.folders was names.groups (fresh_first (source_faults look.faults state) names.retries was one.fresh) one.found
+
+    told_at : (m : Map (Map (List ℕ))) → d.folders ≡ Some m → map files was ≡ map (group_files sure m) names.groups
+    told_at m at = subst (λ o. IfSome o (λ m. map files was ≡ map (group_files sure m) names.groups)) at told
 
     many : length was ≡ length names.groups
     many = sym (length-map was location) ∙ ap length one.located
@@ -360,7 +370,7 @@ module _ {L V D K : Type 0} (look : LookWords L) (view : ViewWords V) (state : D
 
     -- what is told, and what is quiet
     abbrev IsShown : List (Map (List ℕ)) → List (Map (List ℕ)) → Type 0
-    IsShown cached maps = (m : Map (Map (List ℕ))) × (d.folders ≡ Some m) × (fs : List (Map (List ℕ))) × (map (group_files m) names.groups ≡ map Some fs) × (maps ≡ map chunks fs) × IsTrue view.tells × (cached_in e0 ≡ Some cached)
+    IsShown cached maps = (m : Map (Map (List ℕ))) × (d.folders ≡ Some m) × (fs : List (Map (List ℕ))) × (map (group_files sure m) names.groups ≡ map Some fs) × (maps ≡ map chunks fs) × IsTrue view.tells × (cached_in e0 ≡ Some cached)
 
     abbrev IsStill : List (Map (List ℕ)) → List (Map (List ℕ)) → Type 0
     IsStill cached maps = AreKitsAlike words view t (x.k ∷ x.more) × SourcesQuiet words view from to cached maps × HaveOneSize l e0 cached maps
@@ -371,7 +381,7 @@ module _ {L V D K : Type 0} (look : LookWords L) (view : ViewWords V) (state : D
         (λ y i lt has. subst (λ (q : List (Map (List ℕ))). CanBeHad l (resized y (image_length l)) m z (cached ++ q) i) (sym are) (kit_had look view state d x.b names z ns at fs at_fs m told t (x.k ∷ x.more) x.all is_here cached y i lt has))
         (x.made.had (kits_tell look view state d x.b names z ns at fs at_fs t (x.k ∷ x.more) x.all tells) cached shelved)
 
-    quiet : (m : Map (List ℕ)) → d'.files ≡ Some m → (ns : Map (Map (List ℕ))) → d.folders ≡ Some ns → (fs : List (Map (List ℕ))) → map (group_files ns) names.groups ≡ map Some fs → map files was ≡ map Some fs → (cs : List (Map (List ℕ)))
+    quiet : (m : Map (List ℕ)) → d'.files ≡ Some m → (ns : Map (Map (List ℕ))) → d.folders ≡ Some ns → (fs : List (Map (List ℕ))) → map (group_files sure ns) names.groups ≡ map Some fs → map files was ≡ map Some fs → (cs : List (Map (List ℕ)))
         → cached_in e0 ≡ Some (map chunks cs) → Undisturbed d e cache l cs fs → IsStill (map chunks cs) (map chunks fs)
     quiet m told ns at fs at_fs looks cs shelved still = (
       kits_alike look view state d x.b names z ns at fs at_fs m told t (quiet_opened still.0) (x.k ∷ x.more) x.all,
@@ -381,8 +391,8 @@ module _ {L V D K : Type 0} (look : LookWords L) (view : ViewWords V) (state : D
         seeds = each_quiet (faults_in view.faults) (label_in view.held) d'.file_counts x.b3.file_counts e.file_counts n.to_closed x.k.seeds.items x.j.seeds.items labels fresh_seeds seeds_added still.0.files;
         told_cache = shelved;
         cache = cache_quiet d e x.first.disk x.bc n.reached n.from_cached (cache_faults e0) x.e1 x.sound x.shelf still.0;
-        told = groups_hold look.files was fs looks;
-        stores = groups_quiet look.files look.place look.faults state w v names.groups fs was now none_failed (used.stores.files ∙ looks) given_stores still.0.folders;
+        told = groups_hold sure look.files was fs looks;
+        stores = groups_quiet sure look.files look.place look.faults state w v names.groups fs was now none_failed (used.stores.files ∙ looks) given_stores still.0.folders;
       },
       one_size e0 cache l (map chunks cs) (map chunks fs) x.named still.1,
     )
@@ -391,20 +401,27 @@ module _ {L V D K : Type 0} (look : LookWords L) (view : ViewWords V) (state : D
     abbrev pub active : List ℕ
     active = map (λ g. g.active) now
 
-    inside : (k : ℕ) → k < length names.groups → slice_index active k < length (slice_index_or names.groups k [])
-    inside = active_inside look.place now names.groups now_at (λ i g lt. (x.given i g lt).active)
+    each_inside : All (λ g. g.active < length g.stores) now
+    each_inside i g lt = (x.given i g lt).active
 
-    pub run_assembled : Assembled w v names cache out l z (answer_of_stores names.groups active (answer_of_assembly r))
-    run_assembled = assembled w v names cache out l z active inside r
-        (facts_of w v names cache out l z (λ maps base. IsObtainable t base views maps)
+    inside : (k : ℕ) → k < length names.groups → slice_index active k < length (slice_index_or names.groups k [])
+    inside = active_inside look.place now names.groups now_at each_inside
+
+    -- they are the first ones where the groups tell
+    first : (m : Map (Map (List ℕ))) → d.folders ≡ Some m → (fs : List (Map (List ℕ))) → map (group_files sure m) names.groups ≡ map Some fs → (k : ℕ) → slice_index active k ≡ 0
+    first m at fs there = first_active sure look.files now fs (used.stores.files ∙ told_at m at ∙ there) each_inside
+
+    pub run_assembled : Assembled w v sources cache out l z (answer_of_stores names.groups active (answer_of_assembly r))
+    run_assembled = assembled w v sources cache out l z active inside r
+        (facts_of w v sources cache out l z active inside (λ maps base. IsObtainable t base views maps)
         (λ m told maps base i lt. had_of d x.b t z views one.viewed is_here m told base maps i lt)
         (λ m told still maps base i lt. obtainable_of d x.b t z views one.viewed is_here m told base maps i lt (quiet_opened still))
-        r (map files was) (λ cs. cached_in e0 ≡ Some (map chunks cs)) x.t0 x.t1 (NoneUsed before after) x.f0 x.f1 IsShown IsStill told there_before took_bytes x.told left excused
+        r (map files was) (λ cs. cached_in e0 ≡ Some (map chunks cs)) x.t0 x.t1 (NoneUsed before after) x.f0 x.f1 IsShown IsStill told first there_before took_bytes x.told left excused
         (λ none. (unreached none.0, shelf_now ∙ ap (λ s. folders_with s d'.folders) none.1)) x.made.bytes
-        (λ m is_told ns y. lacks_told words location view t w v names cache out z x.t0 from to used.stores located stand ns
-        (λ fs at. groups_hold look.files was fs (subst (λ o. IfSome o (λ m. map files was ≡ map (group_files m) names.groups)) y told ∙ at)) rose m
-        (others_at words location view t w v names cache out z x.t0 from to x.b m is_told one.viewed is_here later rises (cache_lacking d e e0 x.e1 cache l d'.folders name_now shelf_now shelf_rose)) (Rose x.f0 x.f1) r (x.made.lost x.k x.j))
+        (λ m is_told ns y. lacks_told words location view t w v sources cache out z x.t0 from to used.stores located stand ns
+        (λ fs at. groups_hold sure look.files was fs (told_at ns y ∙ at)) rose m
+        (others_at words location view t w v sources cache out z x.t0 from to x.b m is_told one.viewed is_here later rises (cache_lacking d e e0 x.e1 cache l d'.folders name_now shelf_now shelf_rose)) (Rose x.f0 x.f1) r (x.made.lost x.k x.j))
         only (λ cached maps q. x.made.exactly q.0 x.k x.j cached maps q.1 q.2) (λ cached maps q. x.made.after q.0 x.k x.j cached maps q.1 q.2)
         (λ m told ns at fs at_fs looks cs shelved. (ns, at, fs, at_fs, refl, x.tells m told, shelved)) quiet)
         (target_as _ (Rose x.f0 x.f1) (FileRose d e out.name) rose r (x.made.lost x.k x.j))
-        (store_told words location view t w v names cache out z x.t0 from to used.stores located stand (Rose x.f0 x.f1) r (x.made.lost x.k x.j))
+        (store_told words location view t w v sources cache out z x.t0 from to used.stores located stand (Rose x.f0 x.f1) r (x.made.lost x.k x.j))

@@ -17,8 +17,7 @@ use Rattle.command_steps.specs.Cache.{CacheGiven, folders_with}
 use Rattle.command_groups.specs.Groups.{group_files}
 use Rattle.command_worlds.specs.Worlds.{DiskQuiet, FolderRose}
 use Rattle.command_steps.proofs.Taken.{at_name_twice}
-use Rattle.extract_command.specs.Extract.{CacheFilled, CacheGrows, CacheLacksEntry, IsForCache, folder_of}
-use Rattle.extract_command.specs.declared.stores.Stores.{Stores}
+use Rattle.extract_command.specs.Extract.{CacheFilled, CacheGrows, CacheLacksEntry, ExtractStores, IsForCache, folder_of}
 use Rattle.dir_store.specs.Names.{is_stranger}
 use Rattle.dsy_base.proofs.Counts.{at_same}
 use Rattle.dsy_base.specs.Counts.{Quiet, Rose}
@@ -145,7 +144,7 @@ name_after Takes (Some s) (Some t) cache stocked is = ap Some stocked.place ∙ 
 
 -- ---- what was added to it
 
-module _ (stores : Stores) (l : Listing) (c : List ℕ) where
+module _ (stores : ExtractStores) (l : Listing) (c : List ℕ) where
   abbrev Filled : Option (Map (Map (List ℕ))) → Option (Map (Map (List ℕ))) → Type 0
   Filled y z = (is_some z ≡ is_some y) × IfSome y (λ m. IfSome z (λ n. (f : Map (List ℕ)) × (m c ≡ Some f) × (g : Map (List ℕ)) × (n ≡ at_name m c (Some g)) × CacheGrows l m stores f g))
 
@@ -154,10 +153,10 @@ module _ (stores : Stores) (l : Listing) (c : List ℕ) where
   filled_at m x y f g is now grows = (refl, (f, at_same m c x ∙ is, g, ap (at_name m c) now ∙ sym (at_name_twice m c x (Some g)), grows))
 
 -- what these stores hold is in the folders
-abbrev pub AreOfFolders : {S : Type 0} → StoreWords S → List S → Stores → Map (Map (List ℕ)) → Type 0
-AreOfFolders store xs stores n = (fs : List (Map (List ℕ))) → map (group_files n) stores.groups ≡ map Some fs → (id b : List ℕ) → SomeHolds store.holds xs id b → Any (λ m. m id ≡ Some b) (map chunks fs)
+abbrev pub AreOfFolders : {S : Type 0} → StoreWords S → List S → ExtractStores → Map (Map (List ℕ)) → Type 0
+AreOfFolders store xs stores n = (fs : List (Map (List ℕ))) → map (group_files stores.sure n) stores.groups ≡ map Some fs → (id b : List ℕ) → SomeHolds store.holds xs id b → Any (λ m. m id ≡ Some b) (map chunks fs)
 
-module _ {S : Type 0} (store : StoreWords S) (xs : List S) (l : Listing) (n : Map (Map (List ℕ))) (stores : Stores) (held : AreOfFolders store xs stores n) where
+module _ {S : Type 0} (store : StoreWords S) (xs : List S) (l : Listing) (n : Map (Map (List ℕ))) (stores : ExtractStores) (held : AreOfFolders store xs stores n) where
   for_cache : (q b : List ℕ) → TakesListed store l xs q b → IsForCache l n stores q b
   for_cache q b h = (h.0, h.1, h.2.0, h.2.1, λ fs told. held fs told (id_of l h.0) b h.2.2)
 
@@ -171,7 +170,7 @@ module _ {S : Type 0} (store : StoreWords S) (xs : List S) (l : Listing) (n : Ma
     at = subst (λ o. IfSome o (λ n. (q : List ℕ) → (chunks n q ≡ chunks f q) ⊎ ((b : List ℕ) × (chunks n q ≡ Some b) × TakesListed store l xs q b))) now
         (subst (λ o. IfSome o (λ m. IfSome t.files (λ n. (q : List ℕ) → (chunks n q ≡ chunks m q) ⊎ ((b : List ℕ) × (chunks n q ≡ Some b) × TakesListed store l xs q b)))) is stocked.chunks)
 
-pub cache_filled : {S : Type 0} (store : StoreWords S) (xs : List S) (stores : Stores) (l : Listing) (e0 e1 : Option Shelf) (cache : Option (List ℕ)) (folders : Option (Map (Map (List ℕ)))) (d e : Disk)
+pub cache_filled : {S : Type 0} (store : StoreWords S) (xs : List S) (stores : ExtractStores) (l : Listing) (e0 e1 : Option Shelf) (cache : Option (List ℕ)) (folders : Option (Map (Map (List ℕ)))) (d e : Disk)
     → name_in e0 ≡ cache → d.folders ≡ folders_with e0 folders → e.folders ≡ folders_with e1 folders → IsTold e0 folders → Stocked (TakesListed store l xs) e0 e1
     → IfSome d.folders (AreOfFolders store xs stores)
     → CacheFilled stores cache l d e

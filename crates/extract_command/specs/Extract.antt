@@ -34,8 +34,8 @@ use Rattle.dsy_base.specs.Maps.{Map, at_name}
 use Rattle.dsy_base.specs.declared.fault.IoFault.{IoFault}
 use Rattle.dsy_base.specs.declared.fault.IoFault.TheVariants as io
 use Rattle.command_groups.specs.Asking.{WorkersGroupsDialed, with_retries}
-use Rattle.command_groups.specs.Groups.{group_files, stores_of}
-use Rattle.command_groups.specs.Lacking.{HaveLackedIn}
+use Rattle.command_groups.specs.Groups.{first_store, group_files, stores_of}
+use Rattle.command_groups.specs.Lacking.{HaveLackedIn, LacksIn}
 use Rattle.command_steps.specs.Asking.{AsksFew, EachDialed, SendsFronts}
 use Rattle.command_steps.specs.Cache.{CacheOpened}
 use Rattle.command_indexes.specs.Gets.{IndexGot}
@@ -48,7 +48,6 @@ use Rattle.dsy_base.specs.Disk.{Disk, OnFile}
 use Rattle.extract_plan.specs.Deal.{Deal, IsPlan, first_of, of_want, want_id}
 use Rattle.http_wire.specs.declared.reply.Method.TheVariants as method
 use Rattle.image_workers.specs.Kits.{worker_asks}
-use Rattle.store_chain.specs.Giving.{LacksAll}
 use Rattle.store_chain.specs.declared.refused.Refused.{Refused}
 use Rattle.store_chain.specs.declared.refused.Refused.TheVariants as refused
 
@@ -70,6 +69,17 @@ base_of files out l = resized (old_of files out) (image_length l)
 -- it alone has changed, and holds t
 abbrev pub Leaves : Map (List ℕ) → Map (List ℕ) → Into → List ℕ → Type 0
 Leaves before after out t = after ≡ at_name before out.name (Some t)
+
+-- the stores of an extraction: what their words name, how often a call on one that fails is made again, and whether
+-- those that are folders never fail
+pub record ExtractStores : Type 0 where
+  pub groups : List (List Location)
+  pub retries : ℕ
+  pub sure : Bool
+
+-- the same of what the command's words name
+abbrev pub extract_stores : (sure : Bool) → Stores → ExtractStores
+extract_stores sure s = record { groups = s.groups; retries = s.retries; sure = sure }
 
 -- the seeds of an extraction: the names of their images, and what their indexes list
 pub record Seeds : Type 0 where
@@ -127,7 +137,7 @@ abbrev pub NoneAsked : Storage → Storage → Type 0
 NoneAsked w v = (v.dial ≡ w.dial) × (v.disk.folders ≡ w.disk.folders)
 
 -- no connection to a server has ended, and no folder has changed
-abbrev pub NoneReached : Storage → Storage → Stores → Type 0
+abbrev pub NoneReached : Storage → Storage → ExtractStores → Type 0
 NoneReached w v stores = EachDialed (λ s ended. ended ≡ []) (stores_of stores.groups) w.dial.ended v.dial.ended
     × (v.disk.folders ≡ w.disk.folders)
 
@@ -144,13 +154,14 @@ CacheLacksEntry d e None l k = Unit {0}
 CacheLacksEntry d e (Some c) l k = IfSome e.folders (λ n. IfSome (n c) (λ g.
     GivesChunk (kind_of l) (id_of l k) (size_of l k) (chunks g (id_of l k)) → FolderRose d e c))
 
--- so it is where each group is one store, a folder of these, whose files are told
-abbrev pub WhereFolders : Map (Map (List ℕ)) → Stores → (List (Map (List ℕ)) → Type 0) → Type 0
-WhereFolders n stores P = (fs : List (Map (List ℕ))) → map (group_files n) stores.groups ≡ map Some fs → P fs
+-- so it is where each group tells, over these folders
+abbrev pub WhereFolders : Map (Map (List ℕ)) → ExtractStores → (List (Map (List ℕ)) → Type 0) → Type 0
+WhereFolders n stores P =
+    (fs : List (Map (List ℕ))) → map (group_files stores.sure n) stores.groups ≡ map Some fs → P fs
 
 -- where stores are folders, each entry can be obtained, or has the base's bytes in t, unless a write to it failed;
 -- whatever else fails
-abbrev pub OnlyHad : Disk → Disk → Map (List ℕ) → Map (Map (List ℕ)) → List (Map (List ℕ)) → Stores → Into
+abbrev pub OnlyHad : Disk → Disk → Map (List ℕ) → Map (Map (List ℕ)) → List (Map (List ℕ)) → ExtractStores → Into
     → Listing → Seeds → List ℕ → Type 0
 OnlyHad d e before n cs stores out l x t = WhereFolders n stores (λ fs.
     IsObtainableOrBase l (HadFrom before out l x cs fs) (count_at d.file_counts out.name)
@@ -159,11 +170,12 @@ OnlyHad d e before n cs stores out l x t = WhereFolders n stores (λ fs.
 -- the chunk of entry k can't be obtained from the stores, for this reason; an alike entry that is right in the base
 -- couldn't be read, and no seed that has the chunk; and the cache doesn't give it. n are the folders
 pub record IsLacking (w v : Storage) (before : Map (List ℕ)) (n : Map (Map (List ℕ))) (cache : Option (List ℕ))
-    (out : Into) (l : Listing) (x : Seeds) (stores : Stores) (k : ℕ) (id : ChunkId) (r : Refused) : Type 0 where
+    (out : Into) (l : Listing) (x : Seeds) (stores : ExtractStores) (k : ℕ) (id : ChunkId) (r : Refused) : Type 0 where
   pub listed : k < count_of l
   pub id_is : id.0 ≡ id_of l k
   pub said : HaveLackedIn stores.retries (chunk_of (kind_of l) id (size_of l k)) w v stores.groups r
-  pub lacks : WhereFolders n stores (λ fs. LacksAll (chunk_of (kind_of l) id (size_of l k)) (map chunks fs) r)
+  pub lacks : WhereFolders n stores (λ fs.
+      LacksIn (first_store stores.groups) (chunk_of (kind_of l) id (size_of l k)) (map chunks fs) r)
   pub copies : RightAlike l (base_of before out l) k → FileRose w.disk v.disk out.name
   pub seeds : (s : ℕ) (h : SeedHas (kind_of l) before x (id_of l k) (size_of l k) s) → FileRose w.disk v.disk h.image
   pub uncached : CacheLacksEntry w.disk v.disk cache l k
@@ -191,7 +203,7 @@ Undisturbed d e cache l cs fs = DiskQuiet d e
 
 -- entry k is named, for this reason, each before it is right, and what isn't the base's can be obtained. Where stores
 -- are folders, undisturbed, k is the least that can't be obtained, and each that can be obtained was made right
-abbrev pub StopsLacking : Storage → Storage → Stores → Option (List ℕ) → Into → Listing → Seeds → ℕ → ChunkId
+abbrev pub StopsLacking : Storage → Storage → ExtractStores → Option (List ℕ) → Into → Listing → Seeds → ℕ → ChunkId
     → Refused → Type 0
 StopsLacking w v stores cache out l x k id r = Told w.disk v.disk cache (λ b a n cs.
     ((t : List ℕ) × KeepsIn w.disk v.disk b a out l t × ((i : ℕ) → i < k → IsRightAt t l i)
@@ -202,7 +214,7 @@ StopsLacking w v stores cache out l x k id r = Told w.disk v.disk cache (λ b a 
     × WhereFolders n stores (λ fs. Undisturbed w.disk v.disk cache l cs fs → IsLeast (HadFrom b out l x cs fs) k))
 
 -- the first store that failed is named, where no store gave the chunk of some entry
-abbrev pub StopsFailed : Storage → Storage → Stores → Listing → ℕ → Type 0
+abbrev pub StopsFailed : Storage → Storage → ExtractStores → Listing → ℕ → Type 0
 StopsFailed w v stores l s = (k : ℕ) × (id : ChunkId) × (k < count_of l) × (id.0 ≡ id_of l k)
     × HaveLackedIn stores.retries (chunk_of (kind_of l) id (size_of l k)) w v stores.groups (refused.StoreFault s)
 
@@ -210,7 +222,7 @@ StopsFailed w v stores l s = (k : ℕ) × (id : ChunkId) × (k < count_of l) × 
 -- stores are folders, it does so only where each entry can be obtained, and undisturbed exactly there; else the first
 -- that can't be obtained is named. A store that failed is named only where some entry can't be obtained from the seeds
 -- or the cache either
-abbrev pub Assembled : Storage → Storage → Stores → Option (List ℕ) → Into → Listing → Seeds
+abbrev pub Assembled : Storage → Storage → ExtractStores → Option (List ℕ) → Into → Listing → Seeds
     → Result Unit Outcome → Type 0
 Assembled w v stores cache out l x (Ok u) = Told w.disk v.disk cache (λ b a n cs.
     ((t : List ℕ) × KeepsIn w.disk v.disk b a out l t × IsRight t l)
@@ -256,28 +268,28 @@ answer_of_taking io.Memory = Err ends.Memory
 -- ---- what is added to the cache
 
 -- the bytes are the chunk of an entry; where stores are folders of these, one of them holds it
-abbrev pub IsForCache : Listing → Map (Map (List ℕ)) → Stores → List ℕ → List ℕ → Type 0
+abbrev pub IsForCache : Listing → Map (Map (List ℕ)) → ExtractStores → List ℕ → List ℕ → Type 0
 IsForCache l n stores id b = (i : ℕ) × (i < count_of l) × (id ≡ id_of l i)
     × IsChunk (kind_of l) (id_of l i) (size_of l i) b
     × WhereFolders n stores (λ fs. Any (λ m. m (id_of l i) ≡ Some b) (map chunks fs))
 
 -- chunks were added to a folder: under each id it holds what it held, or such bytes. Each file that is neither a
 -- chunk's nor a temporary one stands as before
-pub record CacheGrows (l : Listing) (n : Map (Map (List ℕ))) (stores : Stores) (old new : Map (List ℕ))
+pub record CacheGrows (l : Listing) (n : Map (Map (List ℕ))) (stores : ExtractStores) (old new : Map (List ℕ))
     : Type 0 where
   pub held : (id : List ℕ) → (chunks new id ≡ chunks old id)
       ⊎ ((b : List ℕ) × (chunks new id ≡ Some b) × IsForCache l n stores id b)
   pub strangers : (q : List ℕ) → IsTrue (is_stranger q) → new q ≡ old q
 
 -- no folder but the cache's has changed, and that one so
-abbrev pub CacheFilled : Stores → Option (List ℕ) → Listing → Disk → Disk → Type 0
+abbrev pub CacheFilled : ExtractStores → Option (List ℕ) → Listing → Disk → Disk → Type 0
 CacheFilled stores None l d e = e.folders ≡ d.folders
 CacheFilled stores (Some c) l d e = (is_some e.folders ≡ is_some d.folders) × IfSome d.folders (λ m.
     IfSome e.folders (λ n. (f : Map (List ℕ)) × (m c ≡ Some f) × (g : Map (List ℕ)) × (n ≡ at_name m c (Some g))
     × CacheGrows l m stores f g))
 
 -- a disk whose files were written, and the cache's folder. No number falls
-pub record FillsCache (stores : Stores) (cache : Option (List ℕ)) (l : Listing) (d e : Disk) : Type 0 where
+pub record FillsCache (stores : ExtractStores) (cache : Option (List ℕ)) (l : Listing) (d e : Disk) : Type 0 where
   pub folders : CacheFilled stores cache l d e
   pub counts : (q : List ℕ) → count_at d.file_counts q ≤ count_at e.file_counts q
   pub folder_counts : (q : List ℕ) → count_at d.folder_counts q ≤ count_at e.folder_counts q
@@ -328,7 +340,7 @@ IsSparedOnDisk sure workers d e before cache out l x p w =
 -- there are retries. A server that is a group of its own is sent nothing but fronts of requests for chunks that the
 -- index lists. All workers know of a fault of OUT, or of the cache, where there is one worker, or where no call on it
 -- ever fails, as `sure` says
-pub record GetsWants (sure : NeverFail) (w v : Storage) (stores : Stores) (cache : Option (List ℕ)) (out : Into)
+pub record GetsWants (sure : NeverFail) (w v : Storage) (stores : ExtractStores) (cache : Option (List ℕ)) (out : Into)
     (l : Listing) (x : Seeds) : Type 0 where
   pub workers : ℕ
   pub plan : Deal
@@ -349,7 +361,7 @@ IsCounted name d r e = IsSome (e.file_counts name) ⊎ ((r ≡ Err ends.Memory) 
 
 -- files tell afterwards where they told before. The file, the images of seeds, the cache's folder and those of stores
 -- alone were used
-abbrev pub ImageMade : NeverFail → Stores → Option (List ℕ) → Into → Listing → Seeds → Step Storage Unit
+abbrev pub ImageMade : NeverFail → ExtractStores → Option (List ℕ) → Into → Listing → Seeds → Step Storage Unit
 ImageMade sure stores cache out l x w r v = Assembled w v stores cache out l x r
     × FillsCache stores cache l w.disk v.disk
     × (is_some v.disk.files ≡ is_some w.disk.files) × DialsStores (stores_of stores.groups) w.dial v.dial
@@ -405,14 +417,14 @@ Renamed from to d (Ok u) e =
 Renamed from to d (Err o) e = NotRenamed from to d o e × (e.files ≡ d.files) × OnFile d e to
 
 -- OUT becomes the image: it is made it in its place; or the temporary file is, and takes OUT's name
-abbrev pub OutMade : NeverFail → Bool → Stores → Option (List ℕ) → List ℕ → Listing → Seeds → Step World Unit
+abbrev pub OutMade : NeverFail → Bool → ExtractStores → Option (List ℕ) → List ℕ → Listing → Seeds → Step World Unit
 OutMade sure true stores cache out l x = OnStorage (ImageMade sure stores cache (in_place out) l x)
 OutMade sure false stores cache out l x = do
   _ ← OnStorage (Clearing (temporary_out out) (ImageMade sure stores cache (beside out) l x))
   OnStorage (Clearing (temporary_out out) (NotAsking (Renamed (temporary_out out) out)))
 
 -- while the cache is used its folder counts as there. `sure` says whether calls on OUT, or on the cache, never fail
-abbrev pub ExtractEnds : NeverFail → Stores → Option (List ℕ) → List (List ℕ) → Bool → List ℕ → List ℕ
+abbrev pub ExtractEnds : NeverFail → ExtractStores → Option (List ℕ) → List (List ℕ) → Bool → List ℕ → List ℕ
     → Step World Unit
 ExtractEnds sure stores cache seeds in_place index out = do
   l ← OnStorage (IndexGot index)

@@ -12,7 +12,7 @@ ghost use Rattle.command_words.specs.Locations.{NamesIndex};
 ghost use Rattle.command_worlds.specs.Worlds.{world};
 ghost use Rattle.extract_command.specs.Extract.{Assembled, ClearedAfter, ExtractEnds, FillsCache, IsNoFile};
 ghost use Rattle.extract_command.specs.Extract.{IsCounted, OutMade, Renamed, answer_of_assembly, answer_of_taking};
-ghost use Rattle.extract_command.specs.Extract.{GetsWants, folders_reached, never_fail, temporary_out};
+ghost use Rattle.extract_command.specs.Extract.{GetsWants, extract_stores, folders_reached, never_fail, temporary_out};
 ghost use Rattle.extract_command.specs.Held.{JustReached, disk_with, groups_of};
 ghost use Rattle.dsy_base.specs.Disk.{Output};
 ghost use Rattle.extract_plan.specs.Deal.{Deal, IsPlan};
@@ -178,10 +178,10 @@ where
     ensures assembled { (d : Deal) (ls : List Listing) → IsPlan planned.now.index 1 d →
         IsSeedIndex planned.now.index d ls planned.now.places →
         Assembled (storage (disk_with F.Folder.Look held (F.disk files.old)) (D.state dial.old))
-        (storage (F.disk files.new) (D.state dial.new)) planned.now.stores held.cache
-        (record { name = target.now; fresh = fresh }) planned.now.index
+        (storage (F.disk files.new) (D.state dial.new)) (extract_stores F.Look.never_fails planned.now.stores)
+        held.cache (record { name = target.now; fresh = fresh }) planned.now.index
         (record { images = map image_name planned.now.seeds; listings = ls }) result }
-    ensures kept { FillsCache planned.now.stores held.cache planned.now.index
+    ensures kept { FillsCache (extract_stores F.Look.never_fails planned.now.stores) held.cache planned.now.index
         (disk_with F.Folder.Look held (F.disk files.old)) (F.disk files.new) }
     ensures tells { is_some (F.disk files.new).files ≡ is_some (F.disk files.old).files }
     ensures dialed { DialsStores (stores_of planned.now.stores.groups) (D.state dial.old) (D.state dial.new) }
@@ -193,8 +193,8 @@ where
         IsSeedIndex planned.now.index d ls planned.now.places →
         GetsWants (never_fail F.Target.never_fails F.Folder.never_fails)
         (storage (disk_with F.Folder.Look held (F.disk files.old)) (D.state dial.old))
-        (storage (F.disk files.new) (D.state dial.new)) planned.now.stores held.cache
-        (record { name = target.now; fresh = fresh }) planned.now.index
+        (storage (F.disk files.new) (D.state dial.new)) (extract_stores F.Look.never_fails planned.now.stores)
+        held.cache (record { name = target.now; fresh = fresh }) planned.now.index
         (record { images = map image_name planned.now.seeds; listings = ls }) }
 {
     let alloc = planned.alloc;
@@ -299,7 +299,7 @@ where
     ensures made { (d : Deal) (ls : List Listing) (p : Output) → IsPlan planned.now.index 1 d →
         IsSeedIndex planned.now.index d ls planned.now.places → OutMade
         (never_fail F.Target.never_fails F.Folder.never_fails) false
-        planned.now.stores held.cache target planned.now.index
+        (extract_stores F.Look.never_fails planned.now.stores) held.cache target planned.now.index
         (record { images = map image_name planned.now.seeds; listings = ls })
         (world (disk_with F.Folder.Look held (F.disk files.old)) (D.state dial.old) p) result
         (world (F.disk files.new) (D.state dial.new) p) }
@@ -334,8 +334,8 @@ where
     requires named { NamesIndex words.index }
     ensures ends { (p : Output) → ExtractEnds
         (never_fail F.Target.never_fails F.Folder.never_fails)
-        (record { groups = words.stores; retries = words.retries }) words.cache words.seeds words.in_place
-        words.index words.target (world (F.disk files.old) (D.state dial.old) p) result
+        (record { groups = words.stores; retries = words.retries; sure = F.Look.never_fails }) words.cache words.seeds
+        words.in_place words.index words.target (world (F.disk files.old) (D.state dial.old) p) result
         (world (F.disk files.new) (D.state dial.new) p) }
 {
     let Extraction {

@@ -269,6 +269,8 @@ impl<D: Dial> Store for HttpStore<D> {
 
     ghost never_fails = { false };
 
+    ghost told_never_fail = { false };
+
     ghost may_lack_memory = { true };
 
     fn get(&mut self, id: &ChunkId, out: &mut [u8]) -> Result<usize, GetFault> {
@@ -290,6 +292,8 @@ impl<D: Dial> Store for HttpStore<D> {
     ghost told = { Prim.search rules };
 
     ghost sure = { Prim.search rules };
+
+    ghost steady = { Prim.search rules };
 }
 
 impl<D: Dial> StoreWrite for HttpStore<D> {

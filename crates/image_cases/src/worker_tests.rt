@@ -93,6 +93,8 @@ impl Store for GatedStore {
 
     ghost never_fails = { true };
 
+    ghost told_never_fail = { true };
+
     ghost may_lack_memory = { false };
 
     fn get(&mut self, id: &ChunkId, out: &mut [u8]) -> Result<usize, GetFault> {
@@ -116,6 +118,8 @@ impl Store for GatedStore {
     ghost told = { λ _ _. refl };
 
     ghost sure = { λ _ _. refl };
+
+    ghost steady = { λ _ _ _. refl };
 }
 
 // A kit without seeds, of one store of these chunks.

@@ -95,6 +95,8 @@ impl<'a> Store for SharedChunks<'a> {
 
     ghost never_fails = { true };
 
+    ghost told_never_fail = { true };
+
     ghost may_lack_memory = { false };
 
     fn get(&mut self, id: &ChunkId, out: &mut [u8]) -> Result<usize, GetFault> {
@@ -117,6 +119,8 @@ impl<'a> Store for SharedChunks<'a> {
     ghost told = { λ _ _. refl };
 
     ghost sure = { λ _ _. refl };
+
+    ghost steady = { λ _ _ _. refl };
 }
 
 impl Store for ChunkMap {
@@ -140,6 +144,8 @@ impl Store for ChunkMap {
 
     ghost never_fails = { true };
 
+    ghost told_never_fail = { true };
+
     ghost may_lack_memory = { false };
 
     fn get(&mut self, id: &ChunkId, out: &mut [u8]) -> Result<usize, GetFault> {
@@ -162,6 +168,8 @@ impl Store for ChunkMap {
     ghost told = { λ _ _. refl };
 
     ghost sure = { λ _ _. refl };
+
+    ghost steady = { λ _ _ _. refl };
 }
 
 impl StoreWrite for ChunkMap {

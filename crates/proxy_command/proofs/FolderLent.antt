@@ -42,6 +42,7 @@ folder_words look = record {
   place = λ s. look.place s;
   tells = look.tells;
   never_fails = look.never_fails;
+  told_never_fail = look.never_fails;
   may_lack_memory = look.may_lack_memory;
 }
 
@@ -69,11 +70,11 @@ module _ {L : Type 0} (files : L → Option (Map (List ℕ))) where
     one_held (x ∷ []) = refl
     one_held (x ∷ y ∷ xs) = refl
 
-    group_held : (sure : Bool) (g : Grouped L) → g.active ≡ 0 → group_holds sure Chunks g ≡ held_as sure (files_in files (any_group {D = D} {K = K} g))
+    group_held : (sure : Bool) (g : Grouped L) → g.active ≡ 0 → group_holds sure sure Chunks g ≡ held_as sure (files_in files (any_group {D = D} {K = K} g))
     group_held true g first = ap (λ (n : ℕ). of_store (Some no_chunks) Chunks (slice_get g.stores n)) first ∙ first_held g.stores
     group_held false g first = one_held g.stores
 
-    groups_held : (sure : Bool) (again : ℕ) (counted : AnyStore L D K → ℕ) (gs : List (Grouped L)) → All (IsFresh counted again) (map any_group gs) → map (group_holds sure Chunks) gs ≡ map (held_as sure) (map (files_in files) (map (any_group {D = D} {K = K}) gs))
+    groups_held : (sure : Bool) (again : ℕ) (counted : AnyStore L D K → ℕ) (gs : List (Grouped L)) → All (IsFresh counted again) (map any_group gs) → map (group_holds sure sure Chunks) gs ≡ map (held_as sure) (map (files_in files) (map (any_group {D = D} {K = K}) gs))
     groups_held sure again counted [] fresh = refl
     groups_held sure again counted (g ∷ gs) fresh =
         let one = group_held sure g (fresh 0 (any_group g) (omega arith)).active in
@@ -81,14 +82,14 @@ module _ {L : Type 0} (files : L → Option (Map (List ℕ))) where
         λ i. one i ∷ others i
 
 -- the same by the words that name them
-given_known : (sure : Bool) (m : Map (Map (List ℕ))) (g : List Location) → held_as sure (map (location_files m) g) ≡ option_map chunks (files_given sure m g)
+given_known : (sure : Bool) (m : Map (Map (List ℕ))) (g : List Location) → held_as sure (map (location_files m) g) ≡ option_map chunks (files_given sure sure m g)
 given_known true m [] = refl
 given_known true m (q ∷ g) = refl
 given_known false m [] = refl
 given_known false m (q ∷ []) = refl
 given_known false m (q ∷ r ∷ g) = refl
 
-all_given : (sure : Bool) (m : Map (Map (List ℕ))) (groups : List (List Location)) → map (held_as sure) (map (map (location_files m)) groups) ≡ group_chunks sure m groups
+all_given : (sure : Bool) (m : Map (Map (List ℕ))) (groups : List (List Location)) → map (held_as sure) (map (map (location_files m)) groups) ≡ group_chunks sure sure m groups
 all_given sure m [] = refl
 all_given sure m (g ∷ groups) = λ i. given_known sure m g i ∷ all_given sure m groups i
 
@@ -174,7 +175,7 @@ module _ {L D K : Type 0} (look : LookWords L) (groups : List (List Location)) (
     }
 
   -- what the groups give, by the folders that the words name
-  pub folders_hold : 1 ≤ length chains → (disk : Option (Map (Map (List ℕ)))) → IfSome disk (λ m. chain_files look.files chains ≡ map (map (location_files m)) groups) → IfSome disk (λ m. chain_chunks Words.holds folders ≡ group_chunks look.never_fails m groups)
+  pub folders_hold : 1 ≤ length chains → (disk : Option (Map (Map (List ℕ)))) → IfSome disk (λ m. chain_files look.files chains ≡ map (map (location_files m)) groups) → IfSome disk (λ m. chain_chunks Words.holds folders ≡ group_chunks look.never_fails look.never_fails m groups)
   folders_hold some None found = tt
   folders_hold some (Some m) found = go folders each_holds size ∙ ap (map (held_as look.never_fails)) found ∙ all_given look.never_fails m groups where
     size : length folders ≡ length chains

@@ -4,12 +4,14 @@ use Rattle.std.specs.Option.{option_map}
 use Rattle.cache_store.specs.Shelves.{Shelf}
 use Rattle.chunk_store.specs.declared.id.DigestKind.{DigestKind}
 use Rattle.chunk_store.specs.declared.store.Store.{Ghosts as StoreWords}
-use Rattle.command_groups.proofs.Alike.{files_alike, groups_known, hold_alike}
+use Rattle.command_groups.proofs.Alike.{files_alike, hold_alike}
 use Rattle.command_groups.proofs.LentChains.{chains_later}
+use Rattle.command_groups.proofs.Seen.{groups_known}
+use Rattle.command_groups.proofs.Stand.{fresh_first}
 use Rattle.command_groups.proofs.Words.{group_words}
 use Rattle.command_groups.specs.Chains.{IsChainOpened}
 use Rattle.command_groups.specs.Opened.{files_in, locations_in}
-use Rattle.command_steps.specs.AnyStores.{code_of, location_in, place_in}
+use Rattle.command_steps.specs.AnyStores.{code_of, location_in, place_in, source_faults}
 use Rattle.command_steps.specs.Cache.{with_cache}
 use Rattle.command_steps.specs.Sources.{location_files}
 use Rattle.command_steps.specs.declared.any_store.AnyStore.{AnyStore}
@@ -74,9 +76,10 @@ module _ {L D K : Type 0} (look : LookWords L) (state : D → DialState) where
   Words = group_words look state
 
   module _ (d e : Disk) (groups : List (List Location)) (again : ℕ) where
-    chains_known : (chains : List (Chained (Grouped (AnyStore L D K)))) → 1 ≤ length chains → All (IsChainOpened look state d e groups again) chains → IfSome d.folders (λ m. chain_chunks Words.holds chains ≡ group_chunks false m groups)
+    chains_known : (chains : List (Chained (Grouped (AnyStore L D K)))) → 1 ≤ length chains → All (IsChainOpened look state d e groups again) chains → IfSome d.folders (λ m. chain_chunks Words.holds chains ≡ group_chunks false look.never_fails m groups)
     chains_known [] some opened = absurd (omega (arith, some))
-    chains_known (c ∷ more) some opened = groups_known look.files look.place d.folders c.stores groups (opened 0 c (omega arith)).found
+    chains_known (c ∷ more) some opened = let is = opened 0 c (omega arith) in
+        groups_known look.never_fails look.files d.folders c.stores groups (fresh_first (source_faults look.faults state) again c.stores is.fresh) is.found
 
     chains_found : (chains : List (Chained (Grouped (AnyStore L D K)))) → 1 ≤ length chains → All (IsChainOpened look state d e groups again) chains → IfSome d.folders (λ m. chain_files look.files chains ≡ map (map (location_files m)) groups)
     chains_found [] some opened = absurd (omega (arith, some))
@@ -90,7 +93,8 @@ module _ {L D K : Type 0} (look : LookWords L) (state : D → DialState) where
           let x = slice_index_or (f ∷ more) n c in
           let is = opened n c lt in
           let first = opened 0 f (omega arith) in
-          let same = hold_alike look.files look.place tells look.tells told seen d.folders tells_are groups x.stores f.stores is.located first.located is.found first.found in
+          let same = hold_alike look.files look.place look.never_fails tells look.tells told seen d.folders tells_are groups x.stores f.stores is.located first.located is.found first.found
+          (fresh_first (source_faults look.faults state) again x.stores is.fresh) (fresh_first (source_faults look.faults state) again f.stores first.fresh) in
           record {
             kind = kinds n c lt;
             held = some_held (maps_all_told (map Words.holds f.stores)) (map Words.holds f.stores) (map Words.holds x.stores) same (all_told (map Words.holds f.stores));
@@ -115,7 +119,7 @@ module _ {L D K : Type 0} (look : LookWords L) (state : D → DialState) where
         some = workers.some;
         few = workers.few;
         lent = chains_lent kind chains workers.opened workers.kinds;
-        holds = subst (λ o. IfSome o (λ x. chain_chunks Words.holds chains ≡ group_chunks false x groups)) (sym (reads.folders ∙ before.folders)) (chains_known chains workers.some workers.opened);
+        holds = subst (λ o. IfSome o (λ x. chain_chunks Words.holds chains ≡ group_chunks false look.never_fails x groups)) (sym (reads.folders ∙ before.folders)) (chains_known chains workers.some workers.opened);
         alike = chains_alike chains workers.opened;
         found = subst (λ o. IfSome o (λ x. chain_files look.files chains ≡ map (map (location_files x)) groups)) (sym (reads.folders ∙ before.folders)) (chains_found chains workers.some workers.opened);
         located = λ n c lt. (workers.opened n c lt).located;

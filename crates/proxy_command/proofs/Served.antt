@@ -21,11 +21,11 @@ use Rattle.server_commands.specs.Serving.{Heard, RunsOut, heard}
 
 module _ (looks : LookTypes) (h : Heard) (groups : List (List Location)) (kind : DigestKind) (in_turn : Bool) (folders : Option (Map (Map (List ℕ)))) (held left : Option (Map (List ℕ))) (r : Result Unit Outcome) where
   -- what was served is told by what the words say of the stores
-  pub served_from : (sure : Bool) (types : Surely) (holds : List (Option (Map (List ℕ)))) → sure ≡ stores_never_fail looks groups → types ≡ surely looks h groups folders → IfSome folders (λ m. holds ≡ group_chunks sure m groups)
+  pub served_from : (sure : Bool) (types : Surely) (holds : List (Option (Map (List ℕ)))) → sure ≡ stores_never_fail looks groups → types ≡ surely looks h groups folders → IfSome folders (λ m. holds ≡ group_chunks sure looks.never_fail m groups)
       → ServesProxyTo kind h (supply held left holds) types in_turn r → IsServedFrom looks h groups kind in_turn folders held left r
   served_from sure types holds same is known served = record {
     holds = holds;
-    known = subst (λ (b : Bool). IfSome folders (λ m. holds ≡ group_chunks b m groups)) same known;
+    known = subst (λ (b : Bool). IfSome folders (λ m. holds ≡ group_chunks b looks.never_fail m groups)) same known;
     served = subst (λ (t : Surely). ServesProxyTo kind h (supply held left holds) t in_turn r) is served;
   }
 
@@ -58,9 +58,9 @@ module _ (looks : LookTypes) (never : Bool) (l : ListenState) (groups : List (Li
   -- what groups give, if folders are told
   given_in : Option (Map (Map (List ℕ))) → List (Option (Map (List ℕ)))
   given_in None = []
-  given_in (Some m) = group_chunks (stores_never_fail looks groups) m groups
+  given_in (Some m) = group_chunks (stores_never_fail looks groups) looks.never_fail m groups
 
-  given_is : (o : Option (Map (Map (List ℕ)))) → IfSome o (λ m. given_in o ≡ group_chunks (stores_never_fail looks groups) m groups)
+  given_is : (o : Option (Map (Map (List ℕ)))) → IfSome o (λ m. given_in o ≡ group_chunks (stores_never_fail looks groups) looks.never_fail m groups)
   unfolding given_in
   given_is None = tt
   given_is (Some m) = refl

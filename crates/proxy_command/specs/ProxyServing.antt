@@ -95,15 +95,16 @@ module _ (kind : DigestKind) (h : Heard) (s : Supply) (sure : Surely) where
 -- ---- stores
 
 -- the files of a group of folders, where they are known: of stores that never fail those of the first, which is asked
--- alone, else those of one folder
-abbrev pub files_given : Bool → Map (Map (List ℕ)) → List Location → Option (Map (List ℕ))
-files_given true m [] = Some (λ name. None)
-files_given true m (q ∷ g) = location_files m q
-files_given false m g = group_files m g
+-- alone, else those that the group tells. `looks` says whether folders never fail
+abbrev pub files_given : (sure looks : Bool) → Map (Map (List ℕ)) → List Location → Option (Map (List ℕ))
+files_given true looks m [] = Some (λ name. None)
+files_given true looks m (q ∷ g) = location_files m q
+files_given false looks m g = group_files looks m g
 
 -- the chunks that each group gives
-abbrev pub group_chunks : Bool → Map (Map (List ℕ)) → List (List Location) → List (Option (Map (List ℕ)))
-group_chunks sure m groups = map (λ g. option_map chunks (files_given sure m g)) groups
+abbrev pub group_chunks : (sure looks : Bool) → Map (Map (List ℕ)) → List (List Location)
+    → List (Option (Map (List ℕ)))
+group_chunks sure looks m groups = map (λ g. option_map chunks (files_given sure looks m g)) groups
 
 -- what the type of folders that are looked at says of calls on one: whether they never fail, and may lack memory
 pub record LookTypes : Type 0 where
@@ -144,7 +145,7 @@ pub record IsServedFrom (looks : LookTypes) (h : Heard) (groups : List (List Loc
     (in_turn : Bool) (folders : Option (Map (Map (List ℕ)))) (held left : Option (Map (List ℕ)))
     (r : Result Unit Outcome) : Type 0 where
   pub holds : List (Option (Map (List ℕ)))
-  pub known : IfSome folders (λ m. holds ≡ group_chunks (stores_never_fail looks groups) m groups)
+  pub known : IfSome folders (λ m. holds ≡ group_chunks (stores_never_fail looks groups) looks.never_fail m groups)
   pub served : ServesProxyTo kind h (supply held left holds) (surely looks h groups folders) in_turn r
 
 -- the cache's folder was served from, and given back under its name with the faults that it has counted, at the least:

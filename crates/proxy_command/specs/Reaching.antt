@@ -70,7 +70,7 @@ pub record HasReached {L D K : Type 0} (look : LookWords L) (state : D → DialS
   pub few : length chains ≤ max 1 most
   pub lent : AreLent store kind chains
   pub holds : IfSome (with_cache (Some s) d).folders
-      (λ m. chain_chunks store.holds chains ≡ group_chunks false m groups)
+      (λ m. chain_chunks store.holds chains ≡ group_chunks false look.never_fails m groups)
   pub alike : All (λ c. map (files_in look.files) c.stores ≡ chain_files look.files chains) chains
   pub found : IfSome (with_cache (Some s) d).folders
       (λ m. chain_files look.files chains ≡ map (map (location_files m)) groups)

@@ -5,7 +5,7 @@ use Rattle.caibx_codec.specs.Asks.{IsListedHas}
 use Rattle.caibx_codec.specs.Listing.{Listing, count_of}
 use Rattle.command_groups.proofs.Asked.{groups_asked}
 use Rattle.command_groups.proofs.Given.{group_given_earlier}
-use Rattle.command_groups.proofs.Stand.{folders_still, found_after, fresh_tries, groups_stand_still, groups_try_still}
+use Rattle.command_groups.proofs.Stand.{folders_still, found_after, fresh_first, fresh_tries, groups_stand_still, groups_try_still}
 use Rattle.command_groups.proofs.Standing.{Standing, all_groups_stand}
 use Rattle.command_groups.proofs.Words.{group_words}
 use Rattle.command_groups.specs.Asking.{GroupsAsked}
@@ -37,6 +37,10 @@ module _ {L D K : Type 0} (look : LookWords L) (state : D → DialState) (e : �
   pub located_after : map (locations_in look.place) after ≡ names
   located_after = stands ∙ located
 
+  -- the first store of each was asked first
+  pub first_before : All (λ g. g.active ≡ 0) before
+  first_before = fresh_first (source_faults look.faults state) e before fresh
+
   tries : All (λ g. g.retries ≡ e) after
   tries = groups_try_still look.place e before after kept.places (fresh_tries (source_faults look.faults state) e before fresh)
 
@@ -57,8 +61,8 @@ module _ {L D K : Type 0} (look : LookWords L) (state : D → DialState) (e : �
     consulted_after = reads_consult d m k (storage f j) (stores_of names) opened (subst (λ (l : List (List Location)). ConsultsStores (stores_of l) (storage m k) (storage f j)) located_after closed)
 
     pub standing_after : IfSome d.folders (λ m. map (files_in look.files) before ≡ map (map (location_files m)) names) → All (IsGroupGiven look.place look.faults state (storage m k) (storage f j)) after
-        → All (Standing look.files look.place look.faults state e (storage d k) (storage f j)) after
+        → All (Standing look.never_fails look.files look.place look.faults state e (storage d k) (storage f j)) after
     standing_after found given =
-        all_groups_stand look.files look.place look.faults state e (storage d k) (storage f j) after names located_after
-        (found_after look.files d.folders before after names (folders_still look.place look.files state (IsListedHas l) before after stands kept.files kept.sends) found) tries
+        all_groups_stand look.never_fails look.files look.place look.faults state e (storage d k) (storage f j) after names located_after
+        (found_after look.files d.folders before after names (folders_still look.place look.never_fails look.files state (IsListedHas l) before after stands kept.files kept.sends) found) tries
         (λ n g lt. group_given_earlier look.place look.faults state (storage d k) (storage m k) (storage f j) opened.folder_counts (dials_none k) closed.0.dial (slice_index_or after n g) (given n g lt))

@@ -14,13 +14,13 @@ use Rattle.command_words.specs.declared.command.Location.{Location}
 use Rattle.command_groups.specs.Groups.{group_files}
 use Rattle.store_commands.specs.Info.{asks_once}
 
--- the count is exact where the groups are one folder each that tells
-pub counted_told : {S : Type 0} (folders : Option (Map (Map (List ℕ)))) (groups : List (List Location)) (l : Listing) (files holds : S → Option (Map (List ℕ))) (xs : List S) (n : ℕ)
-    → IfSome folders (λ m. map files xs ≡ map (group_files m) groups) → ((fs : List (Map (List ℕ))) → map files xs ≡ map Some fs → map holds xs ≡ map Some (map chunks fs))
+-- the count is exact where all groups tell
+pub counted_told : {S : Type 0} (sure : Bool) (folders : Option (Map (Map (List ℕ)))) (groups : List (List Location)) (l : Listing) (files holds : S → Option (Map (List ℕ))) (xs : List S) (n : ℕ)
+    → IfSome folders (λ m. map files xs ≡ map (group_files sure m) groups) → ((fs : List (Map (List ℕ))) → map files xs ≡ map Some fs → map holds xs ≡ map Some (map chunks fs))
     → ((maps : List (Map (List ℕ))) → map holds xs ≡ map Some maps → n ≡ held_count l maps)
-    → IfSome folders (λ m. (fs : List (Map (List ℕ))) → map (group_files m) groups ≡ map Some fs → n ≡ held_count l (map chunks fs))
-counted_told None groups l files holds xs n found hold value = tt
-counted_told (Some m) groups l files holds xs n found hold value = λ fs told. value (map chunks fs) (hold fs (found ∙ told))
+    → IfSome folders (λ m. (fs : List (Map (List ℕ))) → map (group_files sure m) groups ≡ map Some fs → n ≡ held_count l (map chunks fs))
+counted_told sure None groups l files holds xs n found hold value = tt
+counted_told sure (Some m) groups l files holds xs n found hold value = λ fs told. value (map chunks fs) (hold fs (found ∙ told))
 
 -- a count that a store's fault ended: when the stores were asked for the id of an entry, that one was the first to fail
 pub record Ended {S : Type 0} (said : S → Said) (faults : S → ℕ) (l : Listing) (s : ℕ) (after : List S) : Type 0 where

@@ -1,5 +1,5 @@
 -- `info -s STORE.. -e RETRIES INDEX`, over groups of stores.
-use Rattle.std.specs.Prelude.{◌≡◌, ◌⊎◌, ℕ, ◌<◌, ◌≤◌, if◌then◌else◌, List, length}
+use Rattle.std.specs.Prelude.{◌≡◌, ◌⊎◌, ℕ, ◌<◌, ◌≤◌, if◌then◌else◌, Bool, List, length}
 use Rattle.std.specs.Prelude.{map, Option, Some, None, IfSome, Result, Ok, Err}
 use Rattle.caibx_codec.specs.Asks.{IsListedHas}
 use Rattle.caibx_codec.specs.Listing.{Listing, count_of, id_of}
@@ -30,14 +30,14 @@ NotAsked e w v groups l other = ⊥
 abbrev pub NotCounted : ℕ → Storage → Storage → List (List Location) → Listing → Outcome → Type 0
 NotCounted e w v groups l o = FirstUnreached w.disk v.disk (stores_of groups) o ⊎ NotAsked e w v groups l o
 
--- n is no more than the number of different listed ids. Where all groups are one folder each that tells, it is the
--- number of those that some folder holds. There are n ids, and of each other one that is listed every group has a store
--- that has denied it
-pub record IsCount (w v : Storage) (groups : List (List Location)) (l : Listing) (n : ℕ) : Type 0 where
+-- n is no more than the number of different listed ids. Where all groups tell, it is the number of those that some of
+-- them holds; `sure` says whether folders never fail. There are n ids, and of each other one that is listed every group
+-- has a store that has denied it
+pub record IsCount (sure : Bool) (w v : Storage) (groups : List (List Location)) (l : Listing) (n : ℕ) : Type 0 where
   pub there : AllThere w.disk (stores_of groups)
   pub size : n ≤ unique_count l
   pub denied : DeniesOthers (group_said w v) l (count_of l) n groups
-  pub counts : IfSome w.disk.folders (λ m. (fs : List (Map (List ℕ))) → map (group_files m) groups ≡ map Some fs
+  pub counts : IfSome w.disk.folders (λ m. (fs : List (Map (List ℕ))) → map (group_files sure m) groups ≡ map Some fs
       → n ≡ held_count l (map chunks fs))
 
 -- once for a listed id, and never for another
@@ -45,19 +45,20 @@ abbrev pub asks_once : Listing → List ℕ → ℕ
 asks_once l id = if is_listed_before l (count_of l) id then 1 else 0
 
 -- how many ids the stores hold, where some are given
-abbrev pub CountedInStores : ℕ → Storage → Storage → List (List Location) → Listing → Result (Option ℕ) Outcome → Type 0
-CountedInStores e w v groups l (Ok None) = length groups ≡ 0
-CountedInStores e w v groups l (Ok (Some n)) = (0 < length groups) × IsCount w v groups l n
-CountedInStores e w v groups l (Err o) = NotCounted e w v groups l o
+abbrev pub CountedInStores : Bool → ℕ → Storage → Storage → List (List Location) → Listing
+    → Result (Option ℕ) Outcome → Type 0
+CountedInStores sure e w v groups l (Ok None) = length groups ≡ 0
+CountedInStores sure e w v groups l (Ok (Some n)) = (0 < length groups) × IsCount sure w v groups l n
+CountedInStores sure e w v groups l (Err o) = NotCounted e w v groups l o
 
 -- servers are asked only whether they have a chunk, at most once for each listed id, and e times more where they
 -- failed. Those that are a group by themselves are sent fronts of such requests
-abbrev pub IdsCounted : List (List Location) → ℕ → Listing → Step Storage (Option ℕ)
-IdsCounted groups e l w r v = CountedInStores e w v groups l r × ConsultsStores (stores_of groups) w v
+abbrev pub IdsCounted : Bool → List (List Location) → ℕ → Listing → Step Storage (Option ℕ)
+IdsCounted sure groups e l w r v = CountedInStores sure e w v groups l r × ConsultsStores (stores_of groups) w v
     × GroupsAsked e (λ id. 0) (asks_once l) (IsListedHas l) groups w.dial.ended v.dial.ended
 
-abbrev pub InfoEnds : List (List Location) → ℕ → List ℕ → Step World Unit
-InfoEnds groups e index = do
+abbrev pub InfoEnds : Bool → List (List Location) → ℕ → List ℕ → Step World Unit
+InfoEnds sure groups e index = do
   l ← OnStorage (IndexGot index)
-  n ← OnStorage (IdsCounted groups e l)
+  n ← OnStorage (IdsCounted sure groups e l)
   OnOut (Printed (text_of_info l n))

@@ -39,7 +39,7 @@ fn count<F: Files, D: Dial>(
     retries: u32,
 ) -> Result<Option<u64>, Outcome>
     requires groups { 1 ≤ length groups.now → AreGroups groups.now retries }
-    ensures counted { CountedInStores retries (storage (F.disk files.old) (D.state dial.old))
+    ensures counted { CountedInStores F.Look.never_fails retries (storage (F.disk files.old) (D.state dial.old))
         (storage (F.disk files.new) (D.state dial.new)) groups.now index.now result }
     ensures kept { ConsultsStores (stores_of groups.now) (storage (F.disk files.old) (D.state dial.old))
         (storage (F.disk files.new) (D.state dial.new)) }
@@ -91,7 +91,8 @@ pub fn print_info<F: Files, D: Dial, O: Sink>(
 ) -> Result<(), Outcome>
     requires groups { 1 ≤ length stores → AreGroups stores retries }
     requires named { NamesIndex index }
-    ensures ends { InfoEnds stores retries index (world (F.disk files.old) (D.state dial.old) (O.output out.old)) result
+    ensures ends { InfoEnds F.Look.never_fails stores retries index
+        (world (F.disk files.old) (D.state dial.old) (O.output out.old)) result
         (world (F.disk files.new) (D.state dial.new) (O.output out.new)) }
 {
     let listed = load_index(alloc, files, dial, index)?;

@@ -130,6 +130,8 @@ impl Store for ScriptedStore {
 
     ghost never_fails = { false };
 
+    ghost told_never_fail = { false };
+
     ghost may_lack_memory = { true };
 
     fn get(&mut self, id: &ChunkId, out: &mut [u8]) -> Result<usize, GetFault> {
@@ -154,6 +156,8 @@ impl Store for ScriptedStore {
     ghost told = { λ _ _. refl };
 
     ghost sure = { Prim.search rules };
+
+    ghost steady = { Prim.search rules };
 }
 
 impl StoreWrite for ScriptedStore {

@@ -1,5 +1,5 @@
 -- What a group keeps and counts as one store.
-use Rattle.std.proofs.Common.{◌≡◌, ◌≢◌, inl, inr, ℕ, zero, suc, ◌+◌, ◌*◌, ◌/◌, ◌≤◌, ◌<◌, List, [], ◌∷◌, ◌++◌, length, max, Option, Some, None, IfSome, IsTrue, false, is_some, take, drop, refl, sym, subst, ap, ◌∙◌, arith}
+use Rattle.std.proofs.Common.{◌≡◌, ◌≢◌, inl, inr, ℕ, zero, suc, ◌+◌, ◌*◌, ◌/◌, ◌≤◌, ◌<◌, List, [], ◌∷◌, ◌++◌, length, max, Option, Some, None, IfSome, IsTrue, Bool, false, is_some, take, drop, refl, sym, subst, ap, ◌∙◌, arith}
 use Rattle.std.specs.List.{AllByRecursion, AllZip}
 use Rattle.std.proofs.Math.Nat.{add-div_right, add-mul, div-mul-le_self, mod-lt, mul-le-mul_right}
 use Rattle.std.proofs.Math.Seq.{drop-append_seam, take-append_seam}
@@ -9,7 +9,7 @@ use Rattle.chunk_store.specs.Said.{AskedOnce, KeepsOf}
 use Rattle.chunk_store.specs.declared.store.Store.{Ghosts as StoreWords}
 use Rattle.dsy_base.specs.Counts.{raised}
 use Rattle.store_group.specs.Answers.{AnswersAt, AnswersFirst, AnswersRound, AskedUpTo, FailsAll, AnswerSays, ask_for, times_for, times_other}
-use Rattle.store_group.specs.Groups.{Grouped, as_store_by, SomeStore, asked_name, files_code, group_count, group_place, most, of_one, places_of, questions_of, said_of, sent_of, told_file_code}
+use Rattle.store_group.specs.Groups.{Grouped, as_store_by, SomeStore, asked_name, files_code, group_count, group_place, most, of_one, of_store, places_of, questions_of, said_of, said_steady, sent_of, steady_of, told_file_code}
 use Rattle.store_group.specs.declared.answer.Answer.{Answer}
 use Rattle.store_group.specs.declared.answer.Answer.TheVariants as answer
 use Rattle.store_group.specs.declared.answer.Question.{Question}
@@ -262,6 +262,14 @@ module _ {S : Type 0} (store : StoreWords S) (q : Question) (r : ℕ) (id : List
 
 -- ---- the group as one store
 
+-- the group as one store, by whether its first store answers alone while it is active. Else any of them may answer
+abbrev pub as_steady : {S : Type 0} → Bool → StoreWords S → StoreWords (Grouped S)
+as_steady unfailing store = record (as_store_by false store) {
+  holds = λ g. of_store (of_one store.holds g.stores) store.holds (steady_of unfailing g.active g.stores);
+  folder = λ g. of_store (of_one store.folder g.stores) store.folder (steady_of unfailing g.active g.stores);
+  said = λ g. said_steady store.said g.stores (steady_of unfailing g.active g.stores);
+}
+
 of_all : {S : Type 0} {A : Type 0} (stores : List S) → SomeStore (λ s. A) stores → A
 of_all [] h = absurd h
 of_all (s ∷ stores) (inl a) = a
@@ -269,7 +277,7 @@ of_all (s ∷ stores) (inr h) = of_all stores h
 
 module _ {S : Type 0} (store : StoreWords S) (id : List ℕ) (out : List ℕ) (g h : Grouped S) where
   -- what the store says that answered, the group says
-  pub group_says : (q : Question) (a : Answer) (k : ℕ) → AnswersAt store q id k g.stores h.stores out a → AnswerSays (as_store_by false store) q id g h out a
+  pub group_says : (q : Question) (a : Answer) (k : ℕ) → AnswersAt store q id k g.stores h.stores out a → AnswerSays (as_steady false store) q id g h out a
   group_says question.Get (answer.Given n) k at = (
     of_all h.stores (some_answers store question.Get id out (answer.Given n) (λ t. n ≤ length out) (λ s t says. says.0) k g.stores h.stores at),
     some_answers store question.Get id out (answer.Given n) (λ t. (store.said t).shown id (take n out)) (λ s t says. says.1) k g.stores h.stores at,
@@ -314,7 +322,7 @@ module _ {S : Type 0} (store : StoreWords S) (id : List ℕ) (g h : Grouped S) (
   once count asked = subst (λ (f : List ℕ → ℕ). AskedOnce (group_count count g) f id) (again count) asked
 
   -- the group was asked once
-  pub group_asked : (q : Question) → AllZip (AskedUpTo store q (g.retries + 1) id) g.stores h.stores → AskedUpTo (as_store_by false store) q 1 id g h
+  pub group_asked : (q : Question) → AllZip (AskedUpTo store q (g.retries + 1) id) g.stores h.stores → AskedUpTo (as_steady false store) q 1 id g h
   group_asked question.Get turns =
       let asked = once store.asked (turns_once store question.Get g.retries id g.stores h.stores turns) in
       record {

@@ -1,7 +1,9 @@
 -- What contracts see of a group of stores, and what it says as one store. Where its stores never fail, by their type,
--- the active one stays so and answers alone, and the group tells what that one tells. Else a group of one store tells
--- what that store tells, and several tell nothing together, since any of them may answer.
-use Rattle.std.specs.Prelude.{◌≡◌, ◌≢◌, ◌⊎◌, ℕ, ◌+◌, ◌*◌, ◌/◌, ◌≤◌, List, [], ◌∷◌, ◌++◌, length, max, slice_get}
+-- the active one stays so and answers alone, and the group tells what that one tells. So it is with the first store
+-- while it is active, where all stores tell what they hold, and those of their type that tell never fail. Else a group
+-- of one store tells what that store tells, and several tell nothing together, since any of them may answer.
+use Rattle.std.specs.Prelude.{◌≡◌, ◌≢◌, ◌⊎◌, ℕ, zero, suc, ◌+◌, ◌*◌, ◌/◌, ◌≤◌, List, [], ◌∷◌, ◌++◌, length, max}
+use Rattle.std.specs.Prelude.{slice_get, is_some}
 use Rattle.std.specs.Prelude.{Bool, true, false, ◌&&◌, IsTrue, IsSome, Option, Some, None, IfSome, refl}
 use Rattle.std.proofs.Common.{inl, inr, ap, arith, ◌∙◌}
 use Rattle.std.proofs.Math.Nat.{div-eq_of_lt}
@@ -121,23 +123,51 @@ abbrev pub said_of_store : {S : Type 0} → (S → Said) → Option S → Said
 said_of_store said None = said_by (Some no_chunks)
 said_of_store said (Some s) = said s
 
+-- ---- a group whose stores tell, where those of their type that tell never fail
+
+-- each of them tells something
+abbrev pub all_tell : {S X : Type 0} → (S → Option X) → List S → Bool
+all_tell f [] = true
+all_tell f (s ∷ stores) = is_some (f s) && all_tell f stores
+
+-- the first of these stores, where none of them fails and it is asked first
+abbrev pub steady_of : {S : Type 0} → (unfailing : Bool) → (active : ℕ) → List S → Option S
+steady_of false active stores = None
+steady_of true (suc active) stores = None
+steady_of true zero [] = None
+steady_of true zero (s ∷ stores) = Some s
+
+-- the store that answers alone, by whether those of the type that tell what they hold never fail
+abbrev pub steady_store : {S X : Type 0} → Bool → (S → Option X) → Grouped S → Option S
+steady_store told holds g = steady_of (told && all_tell holds g.stores) g.active g.stores
+
+-- what is seen of that store, or else of a store that is a group by itself
+abbrev pub seen_of : {S X : Type 0} → (S → Option X) → List S → Option S → Option X
+seen_of f stores o = of_store (of_one f stores) f o
+
+-- what that store has said, or else what some store has
+abbrev pub said_steady : {S : Type 0} → (S → Said) → List S → Option S → Said
+said_steady said stores None = said_of said stores
+said_steady said stores (Some s) = said s
+
 -- ---- the group as one store
 
 module _ {S : Type 0} where
-  -- what the group holds, by whether its stores never fail
-  abbrev pub group_holds : Bool → (S → Option (Map (List ℕ))) → Grouped S → Option (Map (List ℕ))
-  group_holds true holds g = of_store (Some no_chunks) holds (active_store g)
-  group_holds false holds g = of_one holds g.stores
+  -- what the group holds, by whether its stores never fail, and by whether those that tell never do
+  abbrev pub group_holds : (sure told : Bool) → (S → Option (Map (List ℕ))) → Grouped S → Option (Map (List ℕ))
+  group_holds true told holds g = of_store (Some no_chunks) holds (active_store g)
+  group_holds false told holds g = seen_of holds g.stores (steady_store told holds g)
 
   -- which files its chunks lie in
-  abbrev pub group_folder : Bool → (S → Option (Map (List ℕ))) → Grouped S → Option (Map (List ℕ))
-  group_folder true folder g = of_store None folder (active_store g)
-  group_folder false folder g = of_one folder g.stores
+  abbrev pub group_folder : (sure told : Bool) → (holds folder : S → Option (Map (List ℕ))) → Grouped S
+      → Option (Map (List ℕ))
+  group_folder true told holds folder g = of_store None folder (active_store g)
+  group_folder false told holds folder g = seen_of folder g.stores (steady_store told holds g)
 
   -- what it has said
-  abbrev pub group_told : Bool → (S → Said) → Grouped S → Said
-  group_told true said g = said_of_store said (active_store g)
-  group_told false said g = said_of said g.stores
+  abbrev pub group_told : (sure told : Bool) → (S → Option (Map (List ℕ))) → (S → Said) → Grouped S → Said
+  group_told true told holds said g = said_of_store said (active_store g)
+  group_told false told holds said g = said_steady said g.stores (steady_store told holds g)
 
   -- how often it was asked for an id
   abbrev pub group_times : Bool → (S → List ℕ → ℕ) → Grouped S → List ℕ → ℕ
@@ -152,9 +182,9 @@ module _ {S : Type 0} where
 -- the group as one store, by whether its stores never fail
 abbrev pub as_store_by : {S : Type 0} → Bool → StoreWords S → StoreWords (Grouped S)
 as_store_by sure store = record {
-  holds = group_holds sure store.holds;
-  folder = group_folder sure store.folder;
-  said = group_told sure store.said;
+  holds = group_holds sure store.told_never_fail store.holds;
+  folder = group_folder sure store.told_never_fail store.holds store.folder;
+  said = group_told sure store.told_never_fail store.holds store.said;
   sent = λ g. sent_of store.sent store.folder g.stores;
   asked = group_times sure store.asked;
   queried = group_times sure store.queried;
@@ -162,6 +192,7 @@ as_store_by sure store = record {
   place = λ g. group_place store.place g;
   tells = sure && store.tells;
   never_fails = sure;
+  told_never_fail = false;
   may_lack_memory = store.may_lack_memory;
 }
 
@@ -202,6 +233,15 @@ says_same said s m h = record {
   longer = λ id n. (λ d. (h.longer id n).0 (of_either d), λ e. inl ((h.longer id n).1 e));
   taken = λ id b. (λ d. (h.taken id b).0 (of_either d), λ e. inl ((h.taken id b).1 e));
 }
+
+-- two that are both true
+pub both_true : (a b : Bool) → IsTrue (a && b) → IsTrue a × IsTrue b
+both_true true b t = (refl, t)
+both_true false b t = absurd (false≢true t)
+
+always : {X : Type 0} (P : X → Type 0) (o : Option X) → ((x : X) → P x) → IfSome o P
+always P None h = tt
+always P (Some x) h = h x
 
 if_some : {X : Type 0} (P Q : X → Type 0) → ((x : X) → P x → Q x) → (o : Option X) → IfSome o P → IfSome o Q
 if_some P Q f None h = tt
@@ -267,31 +307,82 @@ module _ {S : Type 0} (holds : S → Option (Map (List ℕ))) where
   told_some told None = refl
   told_some told (Some s) = told s
 
-  -- ---- by whether its stores never fail
+  -- ---- the same of a steady store, which may be none
 
-  pub says_by : (sure : Bool) (said : S → Said) → ((s : S) → IfSome (holds s) (SaysMap (said s))) → (g : Grouped S)
-      → IfSome (group_holds sure holds g) (SaysMap (group_told sure said g))
-  says_by true said says g = says_some said says (active_store g)
-  says_by false said says g = says_one said says g.stores
+  says_steady : (said : S → Said) → ((s : S) → IfSome (holds s) (SaysMap (said s))) → (stores : List S) (o : Option S)
+      → IfSome (seen_of holds stores o) (SaysMap (said_steady said stores o))
+  says_steady said says stores None = says_one said says stores
+  says_steady said says stores (Some s) = says s
 
-  pub lies_by : (sure : Bool) (folder : S → Option (Map (List ℕ)))
-      → ((s : S) → IfSome (folder s) (λ m. holds s ≡ Some (chunks m))) → (g : Grouped S)
-      → IfSome (group_folder sure folder g) (λ m. group_holds sure holds g ≡ Some (chunks m))
-  lies_by true folder lies g = lies_some folder lies (active_store g)
-  lies_by false folder lies g = lies_one folder lies g.stores
+  lies_steady : (folder : S → Option (Map (List ℕ))) → ((s : S) → IfSome (folder s) (λ m. holds s ≡ Some (chunks m)))
+      → (stores : List S) (o : Option S) → IfSome (seen_of folder stores o)
+      (λ m. seen_of holds stores o ≡ Some (chunks m))
+  lies_steady folder lies stores None = lies_one folder lies stores
+  lies_steady folder lies stores (Some s) = lies s
 
-  pub unasked_by : (sure : Bool) (asked queried : S → List ℕ → ℕ)
+  of_told : (P : Map (List ℕ) → Type 0) (o : Option (Map (List ℕ))) → IsTrue (is_some o) → IfSome o P
+      → (m : Map (List ℕ)) × P m
+  of_told P None t h = absurd (false≢true t)
+  of_told P (Some m) t h = (m, h)
+
+  -- stores that all tell were asked for nothing that counts
+  none_counted : (count : S → List ℕ → ℕ) → ((s : S) → IfSome (holds s) (λ _. (q : List ℕ) → count s q ≡ 0)) → (r : ℕ)
+      (q : List ℕ) (stores : List S) → IsTrue (all_tell holds stores)
+      → most (λ s. questions_of r (count s q)) stores ≡ 0
+  none_counted count none r q [] t = refl
+  none_counted count none r q (s ∷ stores) t =
+      let both = both_true (is_some (holds s)) (all_tell holds stores) t in
+      let first = (of_told (λ _. (q : List ℕ) → count s q ≡ 0) (holds s) both.0 (none s)).1 q in
+      let one : questions_of r (count s q) ≡ 0 = ap (questions_of r) first ∙ div-eq_of_lt (omega arith) in
+      let rest = none_counted count none r q stores both.1 in
+      λ i. max (one i) (rest i)
+
+  unasked_steady : (asked queried : S → List ℕ → ℕ)
       → ((s : S) → IfSome (holds s) (λ _. (q : List ℕ) → (asked s q ≡ 0) × (queried s q ≡ 0))) → (g : Grouped S)
-      → IfSome (group_holds sure holds g)
+      (unfailing : Bool) → (IsTrue unfailing → IsTrue (all_tell holds g.stores)) → (n : ℕ)
+      (stores : List S) → IfSome (seen_of holds g.stores (steady_of unfailing n stores))
+      (λ _. (q : List ℕ) → (group_count asked g q ≡ 0) × (group_count queried g q ≡ 0))
+  unasked_steady asked queried unasked g false tell n stores = unasked_one asked queried unasked g
+  unasked_steady asked queried unasked g true tell (suc n) stores = unasked_one asked queried unasked g
+  unasked_steady asked queried unasked g true tell zero [] = unasked_one asked queried unasked g
+  unasked_steady asked queried unasked g true tell zero (s ∷ stores) =
+      let none : (q : List ℕ) → (group_count asked g q ≡ 0) × (group_count queried g q ≡ 0) = λ q. (
+        none_counted asked (λ x. if_some (λ _. (q : List ℕ) → (asked x q ≡ 0) × (queried x q ≡ 0)) _
+            (λ m h q. (h q).0) (holds x) (unasked x)) g.retries q g.stores (tell refl),
+        none_counted queried (λ x. if_some (λ _. (q : List ℕ) → (asked x q ≡ 0) × (queried x q ≡ 0)) _
+            (λ m h q. (h q).1) (holds x) (unasked x)) g.retries q g.stores (tell refl),
+      ) in
+      always (λ _. (q : List ℕ) → (group_count asked g q ≡ 0) × (group_count queried g q ≡ 0)) (holds s) (λ m. none)
+
+  -- ---- by whether its stores never fail, and whether those that tell never do
+
+  -- what it has said is exactly what it holds, if that is told
+  pub says_by : (sure told : Bool) (said : S → Said) → ((s : S) → IfSome (holds s) (SaysMap (said s)))
+      → (g : Grouped S) → IfSome (group_holds sure told holds g) (SaysMap (group_told sure told holds said g))
+  says_by true told said says g = says_some said says (active_store g)
+  says_by false told said says g = says_steady said says g.stores (steady_store told holds g)
+
+  -- what it holds are the chunk files of its folder, if they are told
+  pub lies_by : (sure told : Bool) (folder : S → Option (Map (List ℕ)))
+      → ((s : S) → IfSome (folder s) (λ m. holds s ≡ Some (chunks m))) → (g : Grouped S)
+      → IfSome (group_folder sure told holds folder g) (λ m. group_holds sure told holds g ≡ Some (chunks m))
+  lies_by true told folder lies g = lies_some folder lies (active_store g)
+  lies_by false told folder lies g = lies_steady folder lies g.stores (steady_store told holds g)
+
+  -- a group that tells is asked for nothing that counts
+  pub unasked_by : (sure told : Bool) (asked queried : S → List ℕ → ℕ)
+      → ((s : S) → IfSome (holds s) (λ _. (q : List ℕ) → (asked s q ≡ 0) × (queried s q ≡ 0))) → (g : Grouped S)
+      → IfSome (group_holds sure told holds g)
       (λ _. (q : List ℕ) → (group_times sure asked g q ≡ 0) × (group_times sure queried g q ≡ 0))
-  unasked_by true asked queried unasked g = unasked_some asked queried unasked (active_store g)
-  unasked_by false asked queried unasked g = unasked_one asked queried unasked g
+  unasked_by true told asked queried unasked g = unasked_some asked queried unasked (active_store g)
+  unasked_by false told asked queried unasked g = unasked_steady asked queried unasked g
+      (told && all_tell holds g.stores) (λ t. (both_true told (all_tell holds g.stores) t).1) g.active g.stores
 
   -- a group tells where its stores tell and never fail
-  pub told_by : (sure tells : Bool) → ((s : S) → IsTrue tells → IsSome (holds s)) → (g : Grouped S)
-      → IsTrue (sure && tells) → IsSome (group_holds sure holds g)
-  told_by true tells told g t = told_some (λ s. told s t) (active_store g)
-  told_by false tells told g t = absurd (false≢true t)
+  pub told_by : (sure told tells : Bool) → ((s : S) → IsTrue tells → IsSome (holds s)) → (g : Grouped S)
+      → IsTrue (sure && tells) → IsSome (group_holds sure told holds g)
+  told_by true told tells some g t = told_some (λ s. some s t) (active_store g)
+  told_by false told tells some g t = absurd (false≢true t)
 
 -- a group whose stores never fail counts no fault
 pub sure_by : {S : Type 0} (sure : Bool) (g : Grouped S) → IsTrue sure → group_faults sure g ≡ 0

@@ -145,16 +145,17 @@ impl<S: Store> Group<S> {
 }
 
 impl<S: Store> Store for Group<S> {
-    ghost use Rattle.std.specs.Prelude.{◌&&◌};
+    ghost use Rattle.std.specs.Prelude.{◌&&◌, false};
+    ghost use Rattle.std.proofs.Common.{rules};
     ghost use Rattle.store_group.specs.Groups.{group_faults, group_folder, group_holds, group_place, group_times};
     ghost use Rattle.store_group.specs.Groups.{group_told, sent_of};
     ghost use Rattle.store_group.specs.Groups.{lies_by, says_by, sure_by, told_by, unasked_by};
 
-    ghost holds = { λ g. group_holds S.never_fails S.holds g };
+    ghost holds = { λ g. group_holds S.never_fails S.told_never_fail S.holds g };
 
-    ghost folder = { λ g. group_folder S.never_fails S.folder g };
+    ghost folder = { λ g. group_folder S.never_fails S.told_never_fail S.holds S.folder g };
 
-    ghost said = { λ g. group_told S.never_fails S.said g };
+    ghost said = { λ g. group_told S.never_fails S.told_never_fail S.holds S.said g };
 
     ghost sent = { λ g. sent_of S.sent S.folder g.stores };
 
@@ -170,6 +171,8 @@ impl<S: Store> Store for Group<S> {
 
     ghost never_fails = { S.never_fails };
 
+    ghost told_never_fail = { false };
+
     ghost may_lack_memory = { S.may_lack_memory };
 
     fn get(&mut self, id: &ChunkId, out: &mut [u8]) -> Result<usize, GetFault> {
@@ -180,13 +183,15 @@ impl<S: Store> Store for Group<S> {
         self.ask_whether(id)
     }
 
-    ghost says = { λ g. says_by S.holds S.never_fails S.said S.says g };
+    ghost says = { λ g. says_by S.holds S.never_fails S.told_never_fail S.said S.says g };
 
-    ghost lies = { λ g. lies_by S.holds S.never_fails S.folder S.lies g };
+    ghost lies = { λ g. lies_by S.holds S.never_fails S.told_never_fail S.folder S.lies g };
 
-    ghost unasked = { λ g. unasked_by S.holds S.never_fails S.asked S.queried S.unasked g };
+    ghost unasked = { λ g. unasked_by S.holds S.never_fails S.told_never_fail S.asked S.queried S.unasked g };
 
-    ghost told = { λ g t. told_by S.holds S.never_fails S.tells S.told g t };
+    ghost told = { λ g t. told_by S.holds S.never_fails S.told_never_fail S.tells S.told g t };
 
     ghost sure = { λ g t. sure_by S.never_fails g t };
+
+    ghost steady = { Prim.search rules };
 }

@@ -223,4 +223,4 @@ returns g c =
     c.numbered_by-answer.ensures.value
     ∙ ap (λ (l : List (List Location)). answer_of_stores l (Groups c.as_slice.result.now) filled) c.as_slice-named.ensures
     ∙ ap (λ (xs : List (Grouped (AnyStore g.row.F-Look.Denot g.row.D.Denot g.row.D-Link.Denot))). answer_of_stores names (Groups xs) filled) (c.as_slice.ensures.value ∙ last) in
-    record { filled = subst (λ r. FilledBetween names again cache (1 + length more) indexes (storage (with_cache (Some s) d0) n) (storage e j) r) (sym answer) between }
+    record { filled = subst (λ r. FilledBetween look.never_fails names again cache (1 + length more) indexes (storage (with_cache (Some s) d0) n) (storage e j) r) (sym answer) between }

@@ -10,7 +10,7 @@ pub returns-in-Err : goal.returns-in-Err
 returns-in-Err g c =
     let at = g.F.Files.disk in
     let words = c.args.words in
-    record { ends = λ p. not_reached words.stores words.retries words.cache words.workers words.indexes (g.D.Dial.state c.args.dial.now) p (at c.args.files.now) (at c.reach-reached.new.files) c.in-Err.outcome (rw c.as_slice-groups.ensures at (rw c.as_str-cache.ensures at c.in-Err.ensures.err)) }
+    record { ends = λ p. not_reached g.F.Look.Look.never_fails words.stores words.retries words.cache words.workers words.indexes (g.D.Dial.state c.args.dial.now) p (at c.args.files.now) (at c.reach-reached.new.files) c.in-Err.outcome (rw c.as_slice-groups.ensures at (rw c.as_str-cache.ensures at c.in-Err.ensures.err)) }
 
 pub returns : goal.returns
 returns g c =
@@ -25,6 +25,6 @@ returns g c =
     let w = storage (with_cache (Some (shelf_of D.files D.place D.faults c.in-Ok.filling.cached.shelf)) m) k in
     let r = c.fill_between.result in
     let few : max 1 (1 + many) ≤ max 1 words.workers = omega (arith, c.in-Ok.ensures.few) in
-    let between = more_workers words.stores words.retries words.cache (1 + many) words.workers words.indexes w (storage e j) r few c.fill_between.ensures.filled in
+    let between = more_workers g.F.Look.Look.never_fails words.stores words.retries words.cache (1 + many) words.workers words.indexes w (storage e j) r few c.fill_between.ensures.filled in
     let reached = rw c.as_slice-groups.ensures at (rw c.as_str-cache.ensures at c.in-Ok.ensures.ok) in
-    record { ends = λ p. cache_ends words.stores words.retries words.cache words.workers words.indexes k j p (at c.args.files.now) reached.0 (with_cache (Some (shelf_of D.files D.place D.faults c.in-Ok.filling.cached.shelf)) m) e r reached.1 reached.2 between }
+    record { ends = λ p. cache_ends g.F.Look.Look.never_fails words.stores words.retries words.cache words.workers words.indexes k j p (at c.args.files.now) reached.0 (with_cache (Some (shelf_of D.files D.place D.faults c.in-Ok.filling.cached.shelf)) m) e r reached.1 reached.2 between }

@@ -9,7 +9,7 @@ use Rattle.command_steps.specs.Sources.{NotAsking, storage}
 use Rattle.command_worlds.specs.Worlds.{world}
 use Rattle.extract_command.proofs.Replaced.{beside_apart, clears, passed_any}
 use Rattle.extract_command.proofs.extract.assemble_beside.Goals as goal
-use Rattle.extract_command.specs.Extract.{ClearedAfter, ImageMade, Renamed, Seeds, beside, never_fail}
+use Rattle.extract_command.specs.Extract.{ClearedAfter, ImageMade, Renamed, Seeds, beside, extract_stores, never_fail}
 
 -- what is seen of the cache
 abbrev see : (g : Over) → Option (Shelved g.row.F-Folder.Denot) → Option Shelf
@@ -27,7 +27,7 @@ returns-in_err-clear g c =
     let k0 = g.D.Dial.state c.args.dial.now in
     let k1 = g.D.Dial.state c.assemble_into-made.new.dial in
     let w = storage d k0 in
-    let names = c.args.planned.now.stores in
+    let names = extract_stores g.F.Look.Look.never_fails c.args.planned.now.stores in
     let l = c.args.planned.now.index in
     record {
       made = λ deal ls p plan is.
@@ -49,7 +49,7 @@ returns g c =
     let m = at c.clear.new.files in
     let n = at c.rename-renamed.new.files in
     let f = at c.clear-2.new.files in
-    let names = c.args.planned.now.stores in
+    let names = extract_stores g.F.Look.Look.never_fails c.args.planned.now.stores in
     let l = c.args.planned.now.index in
     record {
       made = λ deal ls p plan is.

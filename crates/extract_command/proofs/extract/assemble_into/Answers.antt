@@ -44,7 +44,7 @@ use Rattle.extract_command.proofs.Wrote.{untaken_numbered, wrote_back, wrote_rea
 use Rattle.extract_command.proofs.extract.assemble_into.Given.{Over}
 use Rattle.extract_command.proofs.extract.assemble_into.Goals.{After-of_kits-held}
 use Rattle.extract_command.proofs.extract.assemble_into.Goals as goal
-use Rattle.extract_command.specs.Extract.{Assembled, FillsCache, Into, Seeds, answer_of_assembly, folders_reached, never_fail}
+use Rattle.extract_command.specs.Extract.{Assembled, FillsCache, Into, Seeds, answer_of_assembly, extract_stores, folders_reached, never_fail}
 use Rattle.extract_command.specs.Held.{CanBeGiven, HasNames, IsGivenBack}
 use Rattle.extract_command.specs.Kits.{AreOpened, UsesNames}
 use Rattle.extract_command.specs.declared.stores.Stores.{Stores}
@@ -177,7 +177,7 @@ returns-in_default-clause-assembled g c = λ p ls plan is.
     let e = at c.let_go.new.files in
     let read = c.in_default.ensures.kept in
     let gone = c.let_go.ensures.kept in
-    stopped c.args.planned.now.stores c.args.held.cache (record { name = c.args.target.now; fresh = c.args.fresh }) c.args.planned.now.index (record { images = map image_name c.args.planned.now.seeds; listings = ls }) o (g.D.Dial.state c.args.dial.now) d e
+    stopped (extract_stores g.F.Look.Look.never_fails c.args.planned.now.stores) c.args.held.cache (record { name = c.args.target.now; fresh = c.args.fresh }) c.args.planned.now.index (record { images = map image_name c.args.planned.now.seeds; listings = ls }) o (g.D.Dial.state c.args.dial.now) d e
     (named g c.args.held.cache c.args.held.shelf c.requires.held.lent.named) (cache_told g c.args.files.now c.args.held.shelf) (gone.files ∙ read.files) (back_writes o d b e (wrote_read d b read) gone)
 
 pub returns-in_default-clause-numbered : goal.returns-in_default-clause-numbered
@@ -197,7 +197,7 @@ pub returns-in_default-clause-dialed : goal.returns-in_default-clause-dialed
 returns-in_default-clause-dialed g c = (dials_none _, λ t. refl)
 
 pub returns-in_default-clause-asks : goal.returns-in_default-clause-asks
-returns-in_default-clause-asks g c = λ p ls plan is. asked_nothing c.args.planned.now.stores c.args.held.cache (record { name = c.args.target.now; fresh = c.args.fresh }) c.args.planned.now.index
+returns-in_default-clause-asks g c = λ p ls plan is. asked_nothing (extract_stores g.F.Look.Look.never_fails c.args.planned.now.stores) c.args.held.cache (record { name = c.args.target.now; fresh = c.args.fresh }) c.args.planned.now.index
     (record { images = map image_name c.args.planned.now.seeds; listings = ls }) (see g c.args.held.shelf) (g.D.Dial.state c.args.dial.now) (g.F.Files.disk c.args.files.now) (g.F.Files.disk c.let_go.new.files) (never_fail g.F.Target.View.never_fails g.F.Folder.Look.never_fails) p plan
 
 pub returns-in_default-clause-used : goal.returns-in_default-clause-used
@@ -237,7 +237,7 @@ returns-in-Err-clause-assembled g c = λ p ls plan is.
     let took = c.in-Err.ensures in
     let gone = c.let_go-in-Err.ensures.kept in
     let le : count_at d.file_counts q ≤ count_at b.file_counts q = (reads_twice d b0 b read opened).counts q in
-    rw c.not_taken.ensures (untaken c.args.planned.now.stores c.args.held.cache (record { name = q; fresh = c.args.fresh }) c.args.planned.now.index (record { images = map image_name c.args.planned.now.seeds; listings = ls }) o (g.D.Dial.state c.args.dial.now) d e
+    rw c.not_taken.ensures (untaken (extract_stores g.F.Look.Look.never_fails c.args.planned.now.stores) c.args.held.cache (record { name = q; fresh = c.args.fresh }) c.args.planned.now.index (record { images = map image_name c.args.planned.now.seeds; listings = ls }) o (g.D.Dial.state c.args.dial.now) d e
     (named g c.args.held.cache c.args.held.shelf c.requires.held.lent.named) (cache_told g c.args.files.now c.args.held.shelf) (gone.files ∙ took.err ∙ opened.files ∙ read.files) (back_writes o d b2 e (took_writes d b0 b b2 q read opened took.counts) gone) c.in-Err.fault
     (λ failed. rose_longer (count_at d.file_counts q) (count_at b2.file_counts q) (count_at e.file_counts q) (gone.counts q) (rose_later (count_at d.file_counts q) (count_at b.file_counts q) (count_at b2.file_counts q) le (took.faults.cause (ap Err failed)))))
 
@@ -270,7 +270,7 @@ pub returns-in-Err-clause-dialed : goal.returns-in-Err-clause-dialed
 returns-in-Err-clause-dialed g c = (dials_none _, λ t. refl)
 
 pub returns-in-Err-clause-asks : goal.returns-in-Err-clause-asks
-returns-in-Err-clause-asks g c = λ p ls plan is. asked_nothing c.args.planned.now.stores c.args.held.cache (record { name = c.args.target.now; fresh = c.args.fresh }) c.args.planned.now.index
+returns-in-Err-clause-asks g c = λ p ls plan is. asked_nothing (extract_stores g.F.Look.Look.never_fails c.args.planned.now.stores) c.args.held.cache (record { name = c.args.target.now; fresh = c.args.fresh }) c.args.planned.now.index
     (record { images = map image_name c.args.planned.now.seeds; listings = ls }) (see g c.args.held.shelf) (g.D.Dial.state c.args.dial.now) (g.F.Files.disk c.args.files.now) (g.F.Files.disk c.let_go-in-Err.new.files) (never_fail g.F.Target.View.never_fails g.F.Folder.Look.never_fails) p plan
 
 pub returns-in-Err-clause-used : goal.returns-in-Err-clause-used
@@ -418,7 +418,7 @@ module _ (g : Over) (c : After-of_kits-held g) where
 
     -- and then OUT
     module _ (e : Disk) (put : GivesFile b4 e c.args.target.now f1) where
-      kept : FillsCache names c.args.held.cache c.args.planned.now.index (with_cache e0 d') e
+      kept : FillsCache (extract_stores g.F.Look.Look.never_fails names) c.args.held.cache c.args.planned.now.index (with_cache e0 d') e
       kept =
           let took = took_writes d' b0 b b2 c.args.target.now c.in-Ok.ensures.kept c.open_kits.ensures.kept c.in-Ok-take.ensures.counts in
           let wrote = wrote_then (with_cache e1 d') b4 e (back_writes e1 d' b2 b4 took read) (wrote_back b4 e c.args.target.now f1 put) in
@@ -514,7 +514,7 @@ returns-clause-assembled g c = λ p ls plan is.
     c.numbered-answer.ensures.value ∙ ap (λ (n : List (List Location)). answer_of_stores n (map (λ q. q.active) c.as_slice-opened.result.now) c.answer_of.result) c.as_slice-groups.ensures
     ∙ ap (λ (xs : List (Grouped (AnyStore g.row.F-Look.Denot g.row.D.Denot g.row.D-Link.Denot))). answer_of_stores groups (map (λ q. q.active) xs) c.answer_of.result) (c.as_slice-opened.ensures.value ∙ sym c.of_kits-held.ensures.kits.stores_are)
     ∙ ap (λ (r : Result Unit Outcome). answer_of_stores groups (map (λ q. q.active) (j g here).chain.stores) r) c.answer_of.ensures in
-    subst (λ (r : Result Unit Outcome). Assembled w v (names g here) c.args.held.cache (out g here) l z r) (sym answer) made
+    subst (λ (r : Result Unit Outcome). Assembled w v (extract_stores g.F.Look.Look.never_fails (names g here)) c.args.held.cache (out g here) l z r) (sym answer) made
 
 pub returns-clause-asks : goal.returns-clause-asks
 returns-clause-asks g c = λ p ls plan is.

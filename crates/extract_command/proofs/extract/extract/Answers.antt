@@ -12,8 +12,9 @@ use Rattle.command_worlds.specs.Worlds.{world}
 use Rattle.extract_plan.specs.Places.{PlacesKnown}
 use Rattle.extract_command.proofs.Replaced.{ends_unreached, ends_with, known_places_of}
 use Rattle.extract_command.proofs.Seeded.{zipped_many}
+use Rattle.extract_command.proofs.extract.extract.Given.{Over}
 use Rattle.extract_command.proofs.extract.extract.Goals as goal
-use Rattle.extract_command.specs.Extract.{ExtractEnds, OutMade, never_fail}
+use Rattle.extract_command.specs.Extract.{ExtractEnds, ExtractStores, OutMade, extract_stores, never_fail}
 use Rattle.extract_command.specs.Held.{disk_with}
 use Rattle.extract_command.specs.declared.stores.Stores.{Stores}
 
@@ -76,6 +77,9 @@ reach-requires g c = record { size = rw c.in-Ok.ensures.stores c.requires.stores
 abbrev stores_by : List (List Location) → ℕ → Stores
 stores_by groups retries = record { groups = groups; retries = retries }
 
+abbrev sources_by : (g : Over) → List (List Location) → ℕ → ExtractStores
+sources_by g groups retries = extract_stores g.F.Look.Look.never_fails (stores_by groups retries)
+
 pub returns-in_default : goal.returns-in_default
 returns-in_default g c =
     let at = g.F.Files.disk in
@@ -84,7 +88,7 @@ returns-in_default g c =
     let read = c.in_ok-indexes.ensures in
     let e = at c.read_indexes.new.files in
     record {
-      ends = λ p. ends_unreached (never_fail g.F.Target.View.never_fails g.F.Folder.Look.never_fails) (stores_by words.stores words.retries) words.cache words.seeds words.in_place words.index words.target c.in_ok-listed.listed c.in_ok-indexes.indexes.items (at c.args.files.now) (at c.load_index.new.files) e e (g.D.Dial.state c.args.dial.now) (g.D.Dial.state c.load_index.new.dial) p ends.Memory
+      ends = λ p. ends_unreached (never_fail g.F.Target.View.never_fails g.F.Folder.Look.never_fails) (sources_by g words.stores words.retries) words.cache words.seeds words.in_place words.index words.target c.in_ok-listed.listed c.in_ok-indexes.indexes.items (at c.args.files.now) (at c.load_index.new.files) e e (g.D.Dial.state c.args.dial.now) (g.D.Dial.state c.load_index.new.dial) p ends.Memory
           listed.ends ((rw c.as_slice.ensures at read.ok, read.few), read.kept, rw c.as_slice.ensures at read.used) (inl (inr refl, reads_none e, uses_none [] (folders_among (stores_of words.stores)) e));
     }
 
@@ -96,7 +100,7 @@ returns-in_default-temporary_out g c =
     let read = c.in_ok-indexes.ensures in
     let e = at c.read_indexes.new.files in
     record {
-      ends = λ p. ends_unreached (never_fail g.F.Target.View.never_fails g.F.Folder.Look.never_fails) (stores_by words.stores words.retries) words.cache words.seeds words.in_place words.index words.target c.in_ok-listed.listed c.in_ok-indexes.indexes.items (at c.args.files.now) (at c.load_index.new.files) e e (g.D.Dial.state c.args.dial.now) (g.D.Dial.state c.load_index.new.dial) p ends.Memory
+      ends = λ p. ends_unreached (never_fail g.F.Target.View.never_fails g.F.Folder.Look.never_fails) (sources_by g words.stores words.retries) words.cache words.seeds words.in_place words.index words.target c.in_ok-listed.listed c.in_ok-indexes.indexes.items (at c.args.files.now) (at c.load_index.new.files) e e (g.D.Dial.state c.args.dial.now) (g.D.Dial.state c.load_index.new.dial) p ends.Memory
           listed.ends ((rw c.as_slice.ensures at read.ok, read.few), read.kept, rw c.as_slice.ensures at read.used) (inl (inr refl, reads_none e, uses_none [] (folders_among (stores_of words.stores)) e));
     }
 
@@ -108,7 +112,7 @@ returns-in-Err g c =
     let read = c.in_ok-indexes.ensures in
     let refused = rw c.in-Ok.ensures.stores at c.in-Err.ensures.err in
     record {
-      ends = λ p. ends_unreached (never_fail g.F.Target.View.never_fails g.F.Folder.Look.never_fails) (stores_by words.stores words.retries) words.cache words.seeds words.in_place words.index words.target c.in_ok-listed.listed c.in_ok-indexes.indexes.items (at c.args.files.now) (at c.load_index.new.files) (at c.read_indexes.new.files) (at c.reach.new.files)
+      ends = λ p. ends_unreached (never_fail g.F.Target.View.never_fails g.F.Folder.Look.never_fails) (sources_by g words.stores words.retries) words.cache words.seeds words.in_place words.index words.target c.in_ok-listed.listed c.in_ok-indexes.indexes.items (at c.args.files.now) (at c.load_index.new.files) (at c.read_indexes.new.files) (at c.reach.new.files)
           (g.D.Dial.state c.args.dial.now) (g.D.Dial.state c.load_index.new.dial) p c.in-Err.outcome listed.ends ((rw c.as_slice.ensures at read.ok, read.few), read.kept, rw c.as_slice.ensures at read.used) refused;
     }
 
@@ -132,7 +136,7 @@ returns-then-in_place g c =
     let plan = c.in-Ok.ensures.plan in
     record {
       ends = λ p.
-          let ended : Stores → Option (List ℕ) → List (List ℕ) → List ℕ → Listing → Type 0 = λ n cache images q l. OutMade (never_fail g.F.Target.View.never_fails g.F.Folder.Look.never_fails) true n cache q l (record { images = map image_name images; listings = ls }) (world m k p) c.assemble_into.result (world e j p) in
+          let ended : Stores → Option (List ℕ) → List (List ℕ) → List ℕ → Listing → Type 0 = λ n cache images q l. OutMade (never_fail g.F.Target.View.never_fails g.F.Folder.Look.never_fails) true (extract_stores g.F.Look.Look.never_fails n) cache q l (record { images = map image_name images; listings = ls }) (world m k p) c.assemble_into.result (world e j p) in
           let made = c.assemble_into.ensures in
           let first : ended c.in-Ok.planned.stores held.cache c.in-Ok.planned.seeds c.as_str-then-in_place.result.now c.in-Ok.planned.index = ((made.assembled plan.0 ls (rw c.in-Ok.ensures.index plan.1) (rw c.in-Ok.ensures.index plan.2), made.kept, made.tells, made.dialed, made.numbered, made.asks plan.0 ls (rw c.in-Ok.ensures.index plan.1) (rw c.in-Ok.ensures.index plan.2), made.used), refl) in
           let named = subst (λ q. ended c.in-Ok.planned.stores held.cache c.in-Ok.planned.seeds q c.in-Ok.planned.index) c.as_str-then-in_place.ensures first in
@@ -140,8 +144,8 @@ returns-then-in_place g c =
           let seeded = subst (λ ss. ended c.in-Ok.planned.stores held.cache ss words.target l) c.in-Ok.ensures.seeds indexed in
           let cached = subst (λ cache. ended c.in-Ok.planned.stores cache words.seeds words.target l) over.named seeded in
           let into : ended (stores_by words.stores words.retries) words.cache words.seeds words.target l = subst (λ n. ended n words.cache words.seeds words.target l) c.in-Ok.ensures.stores cached in
-          subst (λ place. ExtractEnds (never_fail g.F.Target.View.never_fails g.F.Folder.Look.never_fails) (stores_by words.stores words.retries) words.cache words.seeds place words.index words.target (world d i p) c.assemble_into.result (world e j p)) (sym c.if-in_place.true)
-          (ends_with (never_fail g.F.Target.View.never_fails g.F.Folder.Look.never_fails) (stores_by words.stores words.retries) words.cache words.seeds true words.index words.target l ls d (at c.load_index.new.files) (at c.read_indexes.new.files) m e i k j p c.assemble_into.result
+          subst (λ place. ExtractEnds (never_fail g.F.Target.View.never_fails g.F.Folder.Look.never_fails) (sources_by g words.stores words.retries) words.cache words.seeds place words.index words.target (world d i p) c.assemble_into.result (world e j p)) (sym c.if-in_place.true)
+          (ends_with (never_fail g.F.Target.View.never_fails g.F.Folder.Look.never_fails) (sources_by g words.stores words.retries) words.cache words.seeds true words.index words.target l ls d (at c.load_index.new.files) (at c.read_indexes.new.files) m e i k j p c.assemble_into.result
           listed.ends ((rw c.as_slice.ensures at read.ok, read.few), read.kept, rw c.as_slice.ensures at read.used) reached into);
     }
 
@@ -165,13 +169,13 @@ returns-else-in_place g c =
     let plan = c.in-Ok.ensures.plan in
     record {
       ends = λ p.
-          let ended : Stores → Option (List ℕ) → List (List ℕ) → Listing → Type 0 = λ n cache images l. OutMade (never_fail g.F.Target.View.never_fails g.F.Folder.Look.never_fails) false n cache words.target l (record { images = map image_name images; listings = ls }) (world m k p) c.assemble_beside.result (world e j p) in
+          let ended : Stores → Option (List ℕ) → List (List ℕ) → Listing → Type 0 = λ n cache images l. OutMade (never_fail g.F.Target.View.never_fails g.F.Folder.Look.never_fails) false (extract_stores g.F.Look.Look.never_fails n) cache words.target l (record { images = map image_name images; listings = ls }) (world m k p) c.assemble_beside.result (world e j p) in
           let first : ended c.in-Ok.planned.stores held.cache c.in-Ok.planned.seeds c.in-Ok.planned.index = c.assemble_beside.ensures.made plan.0 ls p (rw c.in-Ok.ensures.index plan.1) (rw c.in-Ok.ensures.index plan.2) in
           let indexed = subst (λ l. ended c.in-Ok.planned.stores held.cache c.in-Ok.planned.seeds l) c.in-Ok.ensures.index first in
           let seeded = subst (λ ss. ended c.in-Ok.planned.stores held.cache ss l) c.in-Ok.ensures.seeds indexed in
           let cached = subst (λ cache. ended c.in-Ok.planned.stores cache words.seeds l) over.named seeded in
           let into : ended (stores_by words.stores words.retries) words.cache words.seeds l = subst (λ n. ended n words.cache words.seeds l) c.in-Ok.ensures.stores cached in
-          subst (λ place. ExtractEnds (never_fail g.F.Target.View.never_fails g.F.Folder.Look.never_fails) (stores_by words.stores words.retries) words.cache words.seeds place words.index words.target (world d i p) c.assemble_beside.result (world e j p)) (sym c.if-in_place.false)
-          (ends_with (never_fail g.F.Target.View.never_fails g.F.Folder.Look.never_fails) (stores_by words.stores words.retries) words.cache words.seeds false words.index words.target l ls d (at c.load_index.new.files) (at c.read_indexes.new.files) m e i k j p c.assemble_beside.result
+          subst (λ place. ExtractEnds (never_fail g.F.Target.View.never_fails g.F.Folder.Look.never_fails) (sources_by g words.stores words.retries) words.cache words.seeds place words.index words.target (world d i p) c.assemble_beside.result (world e j p)) (sym c.if-in_place.false)
+          (ends_with (never_fail g.F.Target.View.never_fails g.F.Folder.Look.never_fails) (sources_by g words.stores words.retries) words.cache words.seeds false words.index words.target l ls d (at c.load_index.new.files) (at c.read_indexes.new.files) m e i k j p c.assemble_beside.result
           listed.ends ((rw c.as_slice.ensures at read.ok, read.few), read.kept, rw c.as_slice.ensures at read.used) reached into);
     }

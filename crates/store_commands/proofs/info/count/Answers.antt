@@ -6,21 +6,20 @@ use Rattle.caibx_codec.specs.Listing.{id_of}
 use Rattle.chunk_store.specs.Said.{KeepsOf}
 use Rattle.command_groups.proofs.Asked.{groups_undialed}
 use Rattle.command_groups.proofs.Lacked.{group_fails_first}
-use Rattle.command_groups.proofs.Stand.{groups_hold, groups_many, groups_tell}
+use Rattle.command_groups.proofs.Seen.{groups_hold, groups_tell}
+use Rattle.command_groups.proofs.Stand.{groups_many}
 use Rattle.command_groups.proofs.Words.{group_words}
 use Rattle.command_groups.specs.Asking.{with_retries}
 use Rattle.command_groups.specs.Groups.{stores_of}
 use Rattle.command_groups.specs.Lacking.{group_said}
 use Rattle.command_groups.specs.Opened.{locations_in, told_files}
 use Rattle.command_steps.proofs.Consulted.{only_read}
-use Rattle.command_steps.specs.AnyStores.{said_in}
 use Rattle.command_steps.specs.Asking.{Asks, AsksOnly}
 use Rattle.command_steps.specs.Sources.{storage}
-use Rattle.store_commands.proofs.CountedGroups.{asked_after, consulted_after, known_after, located_after, standing_after}
+use Rattle.store_commands.proofs.CountedGroups.{asked_after, consulted_after, first_before, known_after, located_after, standing_after}
 use Rattle.store_commands.proofs.Counting.{counted_told, ended_by, others_denied}
 use Rattle.store_commands.proofs.info.count.Goals as goal
 use Rattle.store_commands.specs.Info.{asks_once}
-use Rattle.store_group.specs.Groups.{said_of}
 
 pub open_groups-requires : goal.open_groups-requires
 open_groups-requires g c =
@@ -86,14 +85,16 @@ returns-in-Ok-clause-counted g c =
     let v = storage f j in
     let given = rw c.into_stores.ensures.value at c.close_groups.ensures.given in
     let stand = standing_after look state e l names before after opened.located opened.fresh kept d m k f j opened.kept closed opened.found given in
+    let sure = look.never_fails in
+    let first = first_before look state e l names before after opened.located opened.fresh kept in
     let value = rw c.with_kind-chain.ensures.value at c.in-Ok.ensures.value in (
       some,
       record {
         there = opened.there;
         size = c.in-Ok.ensures.size;
-        denied = others_denied (locations_in look.place) (λ x. said_of (said_in look.files state) x.stores) (group_said w v) l c.in-Ok.n after names
+        denied = others_denied (locations_in look.place) (group_words look state).said (group_said w v) l c.in-Ok.n after names
             (located_after look state e l names before after opened.located opened.fresh kept) (λ n x lt. (stand n x lt).says) c.in-Ok.ensures.absent;
-        counts = counted_told d.folders names l (told_files look.files) (group_words look state).holds before c.in-Ok.n (groups_tell look.files d.folders before names opened.found) (groups_hold look.files before) value;
+        counts = counted_told sure d.folders names l (told_files sure look.files) (group_words look state).holds before c.in-Ok.n (groups_tell sure look.files d.folders before names first opened.found) (groups_hold sure look.files before) value;
       },
     )
 

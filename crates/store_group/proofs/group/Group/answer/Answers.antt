@@ -36,8 +36,9 @@ returns-in-Some-clause-says g c =
     let old = left c.self.inside.stores.items c.self.inside.active c.self.inside.retries c.self.inside.failed in
     let new = left c.ask_round.new.stores c.in-Some.number c.self.inside.retries c.self.inside.failed in
     let at = subst (λ (l : List g.row.S.Denot). AnswersAt g.S.Store c.args.question c.args.id.now.0 c.in-Some.number l c.ask_round.new.stores c.ask_round.new.out c.in-Some.answer) c.as_mut_slice-stores.ensures.value c.in-Some.ensures.at in
+    let turns = subst (λ (l : List g.row.S.Denot). AllZip (AskedUpTo g.S.Store c.args.question (c.self.inside.retries + 1) c.args.id.now.0) l c.ask_round.new.stores) c.as_mut_slice-stores.ensures.value c.ask_round.ensures.asked in
     let round = subst (λ (l : List g.row.S.Denot). AnswersRound g.S.Store c.args.question c.self.inside.retries c.args.id.now.0 c.self.inside.active c.in-Some.number l c.ask_round.new.stores c.ask_round.new.out c.in-Some.answer) c.as_mut_slice-stores.ensures.value c.in-Some.ensures.answer in
-    let says = says_as g.S.Store c.args.question c.args.id.now.0 c.ask_round.new.out old new c.self.invariant.0 g.S.Store.never_fails (λ s. g.met.S.Store.sure s) c.in-Some.answer at round in
+    let says = says_as g.S.Store c.args.question c.args.id.now.0 c.ask_round.new.out old new c.self.invariant.0 (λ s. g.met.S.Store.steady s) g.S.Store.never_fails (λ s. g.met.S.Store.sure s) turns c.in-Some.answer at round in
     subst (λ (v : Grouped g.row.S.Denot). AnswerSays (as_store g.S.Store) c.args.question c.args.id.now.0 v (left (with_items c.self.inside.stores c.ask_round.new.stores).items c.in-Some.number c.self.inside.retries c.self.inside.failed) c.ask_round.new.out c.in-Some.answer) c.self.view_is
     (subst (λ (l : List g.row.S.Denot). AnswerSays (as_store g.S.Store) c.args.question c.args.id.now.0 old (left l c.in-Some.number c.self.inside.retries c.self.inside.failed) c.ask_round.new.out c.in-Some.answer) (sym kept) says)
 
@@ -48,7 +49,7 @@ returns-in-Some-clause-asked g c =
     let new = left c.ask_round.new.stores c.in-Some.number c.self.inside.retries c.self.inside.failed in
     let turns = subst (λ (l : List g.row.S.Denot). AllZip (AskedUpTo g.S.Store c.args.question (c.self.inside.retries + 1) c.args.id.now.0) l c.ask_round.new.stores) c.as_mut_slice-stores.ensures.value c.ask_round.ensures.asked in
     let round = subst (λ (l : List g.row.S.Denot). AnswersRound g.S.Store c.args.question c.self.inside.retries c.args.id.now.0 c.self.inside.active c.in-Some.number l c.ask_round.new.stores c.ask_round.new.out c.in-Some.answer) c.as_mut_slice-stores.ensures.value c.in-Some.ensures.answer in
-    let asked = asked_as g.S.Store c.args.question c.args.id.now.0 c.ask_round.new.out old new c.self.invariant.0 refl (omega arith) g.S.Store.never_fails (λ s. g.met.S.Store.sure s) turns c.in-Some.answer round in
+    let asked = asked_as g.S.Store c.args.question c.args.id.now.0 c.ask_round.new.out old new c.self.invariant.0 refl (omega arith) (λ s. g.met.S.Store.steady s) g.S.Store.never_fails (λ s. g.met.S.Store.sure s) turns c.in-Some.answer round in
     subst (λ (v : Grouped g.row.S.Denot). AskedUpTo (as_store g.S.Store) c.args.question 1 c.args.id.now.0 v (left (with_items c.self.inside.stores c.ask_round.new.stores).items c.in-Some.number c.self.inside.retries c.self.inside.failed)) c.self.view_is
     (subst (λ (l : List g.row.S.Denot). AskedUpTo (as_store g.S.Store) c.args.question 1 c.args.id.now.0 old (left l c.in-Some.number c.self.inside.retries c.self.inside.failed)) (sym kept) asked)
 
@@ -62,7 +63,7 @@ returns-in-None-clause-asked g c =
     let old = left c.self.inside.stores.items c.self.inside.active c.self.inside.retries c.self.inside.failed in
     let new = left c.ask_round.new.stores c.self.inside.active c.self.inside.retries c.raise-self-inside.result in
     let turns = subst (λ (l : List g.row.S.Denot). AllZip (AskedUpTo g.S.Store c.args.question (c.self.inside.retries + 1) c.args.id.now.0) l c.ask_round.new.stores) c.as_mut_slice-stores.ensures.value c.ask_round.ensures.asked in
-    let asked = asked_still g.S.Store c.args.question c.args.id.now.0 c.ask_round.new.out old new c.self.invariant.0 refl c.raise-self-inside.ensures.faults refl g.S.Store.never_fails (λ s. g.met.S.Store.sure s) turns in
+    let asked = asked_still g.S.Store c.args.question c.args.id.now.0 c.ask_round.new.out old new c.self.invariant.0 refl c.raise-self-inside.ensures.faults refl (λ s. g.met.S.Store.steady s) g.S.Store.never_fails (λ s. g.met.S.Store.sure s) turns in
     subst (λ (v : Grouped g.row.S.Denot). AskedUpTo (as_store g.S.Store) c.args.question 1 c.args.id.now.0 v (left (with_items c.self.inside.stores c.ask_round.new.stores).items c.self.inside.active c.self.inside.retries c.raise-self-inside.result)) c.self.view_is
     (subst (λ (l : List g.row.S.Denot). AskedUpTo (as_store g.S.Store) c.args.question 1 c.args.id.now.0 old (left l c.self.inside.active c.self.inside.retries c.raise-self-inside.result)) (sym kept) asked)
 
