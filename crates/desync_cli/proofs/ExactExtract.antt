@@ -23,7 +23,7 @@ use Rattle.command_steps.specs.Stores.{are_folders}
 use Rattle.command_words.specs.declared.command.Location.TheVariants as locations
 use Rattle.command_worlds.specs.Steps.{◌>>=◌, outcome_of}
 use Rattle.command_worlds.specs.Worlds.{DiskQuiet, FileRose, OnDisk, World, world}
-use Rattle.desync_cli.proofs.AtHand.{Climbs, NoneRose, climbs_on, filled_climbs, none_rose, self_climbs, wrote_climbs}
+use Rattle.desync_cli.proofs.Climbs.{Climbs, NoneRose, climbs_on, filled_climbs, none_rose, self_climbs, wrote_climbs}
 use Rattle.desync_cli.proofs.ExactCache.{is_memory}
 use Rattle.command_groups.specs.Groups.{first_store, group_files, stores_of}
 use Rattle.desync_cli.proofs.Grouped.{AreTelling, none_lacking, tells_first}

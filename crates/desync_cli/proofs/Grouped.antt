@@ -1,5 +1,5 @@
 -- Stores in groups: how many they are, which of them failed, and groups of one store each.
-use Rattle.std.proofs.Common.{Bool, true, false, ◌&&◌, ◌⊎◌, Some, is_some, drop, ◌≡◌, ◌++◌, ◌+◌, ◌≤◌, ℕ, zero, suc, IfSome, IsTrue, List, [], ◌∷◌, Option, length, map, sum_by, take, refl, sym, subst, ap, ap₂, ◌∙◌, inl, inr, arith}
+use Rattle.std.proofs.Common.{Bool, true, false, ◌&&◌, ◌⊎◌, Some, is_some, drop, ◌≡◌, ◌++◌, ◌+◌, ◌≤◌, ℕ, zero, suc, IfSome, IsTrue, List, [], ◌∷◌, Option, length, map, sum_by, take, refl, sym, subst, ap, ◌∙◌, inl, inr, arith}
 use Rattle.std.specs.List.{All}
 use Rattle.std.proofs.lemmas.Bool.{cases_lt}
 use Rattle.std.proofs.lemmas.List.{length-append}

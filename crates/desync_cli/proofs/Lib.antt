@@ -1,7 +1,7 @@
-pub mod Alone
 pub mod AtHand
 pub mod Cached
 pub mod Chopped
+pub mod Climbs
 pub mod Done
 pub mod Exact
 pub mod ExactCache
@@ -11,11 +11,14 @@ pub mod ExactImages
 pub mod ExactRanges
 pub mod ExactServing
 pub mod ExactTexts
+pub mod ExtractAtHand
 pub mod Extracted
 pub mod Fair
 pub mod Grouped
 pub mod Made
+pub mod Mirrored
 pub mod Named
+pub mod OthersAtHand
 pub mod Pruned
 pub mod Readings
 pub mod Replaced

@@ -219,8 +219,9 @@ where
         (world (F.disk files.old) (D.state dial.old) (O.output out.old))
         (world (F.disk files.new) (D.state dial.new) (O.output out.new))) }
 
-    // An extraction whose index and chunks are all at hand needs no server: where no call on files and folders fails it
-    // is done, or there was no memory, whatever servers send.
+    // An extraction, a range or a cache whose indexes and chunks are all at hand needs no server: where no call on
+    // files and folders fails it is done, or there was no memory, or the output failed, whatever servers send. A group
+    // of folders has a chunk at hand if each of them gives it.
     ensures at_hand { DiskQuiet (F.disk files.old) (F.disk files.new) → IfSome (command_of (map string_bytes words.now))
         (λ c. EndsAtHand c (F.disk files.old) result.outcome) }
 

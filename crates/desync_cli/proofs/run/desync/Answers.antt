@@ -1,4 +1,4 @@
-use Rattle.std.proofs.Common.{map, string_bytes, sym, true, ◌∙◌, arith}
+use Rattle.std.proofs.Common.{map, string_bytes, sym, ◌∙◌, arith}
 use Rattle.std.proofs.lemmas.List.{length-map}
 use Rattle.command_worlds.specs.Worlds.{world}
 use Rattle.desync_cli.proofs.Replaced.{left_behind}
