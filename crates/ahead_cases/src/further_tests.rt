@@ -42,6 +42,7 @@ fn chain_of(
 ) -> Chain<DirStore<GatedFolder>>
     ensures kind { result.kind ≡ kinds.Sha512T256 }
     ensures holds { map ⟦<DirStore<GatedFolder> as Store>⟧.holds result.stores ≡ None ∷ [] }
+    ensures members { map ⟦<DirStore<GatedFolder> as Store>⟧.members result.stores ≡ None ∷ [] }
 {
     let mut folder = MemFolder::new(alloc, Vec::new(alloc));
     for (name, bytes) in CHUNKS.as_slice() {
@@ -68,6 +69,7 @@ fn chains_of(
 ) -> Vec<Chain<DirStore<GatedFolder>>>
     ensures kinds { All (λ c. c.kind ≡ kinds.Sha512T256) result.items }
     ensures holds { All (λ c. map ⟦<DirStore<GatedFolder> as Store>⟧.holds c.stores ≡ None ∷ []) result.items }
+    ensures members { All (λ c. map ⟦<DirStore<GatedFolder> as Store>⟧.members c.stores ≡ None ∷ []) result.items }
 {
     let mut chains = Vec::new(alloc);
     while chains.len() < count {

@@ -1,5 +1,5 @@
 -- What others add to the cache meanwhile: what the stores give for the entries of the index.
-use Rattle.std.proofs.Common.{◌≡◌, ◌++◌, ℕ, List, length, map, Option, Some, None, IfSome, refl, sym, subst}
+use Rattle.std.proofs.Common.{◌≡◌, ◌++◌, ℕ, List, length, Option, Some, None, IfSome, refl, sym, subst}
 use Rattle.std.specs.List.{Any}
 use Rattle.cache_store.specs.Giving.{SomeGives}
 use Rattle.cache_store.specs.Shelves.{MayAdd, Others, Shelf}
@@ -8,6 +8,7 @@ use Rattle.chunk_sources.proofs.Cached.{gives_left, gives_right}
 use Rattle.chunk_sources.specs.Caches.{OthersAddListed, OthersAddOnly, HaveOneSize, IsAlone, IsListedAs, Stocked, TakesListed}
 use Rattle.chunk_store.specs.Giving.{IsChunk}
 use Rattle.chunk_store.specs.declared.store.Store.{Ghosts as StoreWords}
+use Rattle.chunk_store.specs.Members.{maps_of}
 use Rattle.dsy_base.specs.Maps.{Map}
 
 if_map : {X : Type 0} (P Q : X → Type 0) (o : Option X) → ((x : X) → P x → Q x) → IfSome o P → IfSome o Q
@@ -25,7 +26,7 @@ module _ {S : Type 0} (store : StoreWords S) (l : Listing) (stores : List S) whe
 
   -- of a chunk that the index lists they add nothing else, once the cache was filled too: what it gives now of it it
   -- gave at first
-  module _ (maps : List (Map (List ℕ))) (told : map store.holds stores ≡ map Some maps) (id : List ℕ) (size : ℕ) (listed : IsListedAs l id size) where
+  module _ (maps : List (Map (List ℕ))) (told : maps_of store.members stores ≡ Some maps) (id : List ℕ) (size : ℕ) (listed : IsListedAs l id size) where
     held_one : (o : Others) → Listed o → (b : List ℕ) → MayAdd o.kind o.pairs o.stores id b → Any (λ m. m id ≡ Some b) maps
     held_one o adds b may =
         let x = adds id b may in

@@ -186,7 +186,7 @@ module _ {S V : Type 0} (store : StoreWords S) (view : ViewWords V) (t : Task) w
     cached_part : Cached a e w → Cached b c w
     cached_part gives = cache_part store t.listing t.plan A a.kit.chain.stores b.kit.chain.stores a.cache b.cache c.cache e.cache (want_id t.listing t.plan w)
         (size_of t.listing (first_of t.plan w)) wants within before.stocked
-        (stocked_falls (TakesWants store t.listing t.plan B c.kit.chain.stores) c.cache e.cache after.stocked) before.step.stores.held gives
+        (stocked_falls (TakesWants store t.listing t.plan B c.kit.chain.stores) c.cache e.cache after.stocked) before.step.stores.members gives
 
     sized_part : Sized a w → Sized b w
     sized_part adds = adds_on (TakesWants store t.listing t.plan A a.kit.chain.stores) (want_id t.listing t.plan w) (size_of t.listing (first_of t.plan w)) a.cache b.cache before.stocked adds

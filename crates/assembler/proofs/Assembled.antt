@@ -1,6 +1,6 @@
 -- What an assembly says of its sources, over the base: it stood at a after the survey and at b at the end. At first the
 -- count of the target's faults was f, and its bytes were `o`.
-use Rattle.std.proofs.Common.{◌≡◌, ◌⊎◌, ◌++◌, ℕ, ◌≤◌, List, [], length, map, Option, Some, None, IfOk, IfSome, IsSomeAnd, Result, Ok, Err, true, refl, sym, ap, ◌∙◌, subst, inl, inr, arith, is_some}
+use Rattle.std.proofs.Common.{◌≡◌, ◌⊎◌, ◌++◌, ℕ, ◌≤◌, List, [], length, Option, Some, None, IfOk, IfSome, IsSomeAnd, Result, Ok, Err, true, refl, sym, ap, ◌∙◌, subst, inl, inr, arith, is_some}
 use Rattle.std.proofs.lemmas.Bool.{cases_Bool}
 use Rattle.std.proofs.lemmas.List.{length-append, length-replicate, length-take}
 use Rattle.std.specs.Option.{option_map}
@@ -24,16 +24,17 @@ use Rattle.assembler.specs.declared.fault.ExtractFault.{ExtractFault}
 use Rattle.assembler.specs.declared.fault.ExtractFault.TheVariants as faults
 use Rattle.cache_store.specs.Shelves.{Shelf}
 use Rattle.caibx_codec.specs.Asks.{IsListedGet}
-use Rattle.caibx_codec.specs.Listing.{Listing, count_of, image_length}
+use Rattle.caibx_codec.specs.Listing.{Listing, count_of, image_length, kind_of}
 use Rattle.caibx_codec.specs.Right.{IsRightAt}
 use Rattle.chunk_sources.proofs.Cached.{stocked_none}
 use Rattle.chunk_sources.proofs.Lacking.{quiet_never}
 use Rattle.chunk_sources.specs.Asks.{IsSpared, asks_below, calls_below}
-use Rattle.chunk_sources.specs.Caches.{HaveOneSize, IsAlone, TakesListed, cached_in}
+use Rattle.chunk_sources.specs.Caches.{HaveOneSize, IsAlone, TakesListed, cached_in, IsListedAs}
 use Rattle.chunk_sources.specs.Economy.{source_of}
 use Rattle.chunk_sources.specs.Sources.{Sources, SourcesQuiet, Telling, sources, views_of}
 use Rattle.chunk_sources.specs.Wants.{Task}
 use Rattle.chunk_store.specs.declared.store.Store.{Ghosts as StoreWords}
+use Rattle.chunk_store.specs.Members.{maps_of}
 use Rattle.dsy_base.specs.Bytes.{Held, held_resized, resized}
 use Rattle.dsy_base.specs.Counts.{Rose}
 use Rattle.dsy_base.specs.Maps.{Map}
@@ -126,7 +127,7 @@ module _ {S V : Type 0} (store : StoreWords S) (view : ViewWords V) (t : Task) (
     abbrev views : List (Option Held)
     views = views_of view a.kit.seeds.items
 
-    module _ (cached maps : List (Map (List ℕ))) (nothing : SourcesQuiet store view first_sources (from b) cached maps) (one : HaveOneSize t.listing a.cache cached maps) where
+    module _ (cached maps : List (Map (List ℕ))) (nothing : SourcesQuiet store view (kind_of t.listing) (IsListedAs t.listing) first_sources (from b) cached maps) (one : HaveOneSize t.listing a.cache cached maps) where
       -- ---- what it cost
 
       abbrev source : List ℕ → ℕ → Fate
@@ -150,6 +151,7 @@ module _ {S V : Type 0} (store : StoreWords S) (view : ViewWords V) (t : Task) (
             told_cache = nothing.told_cache;
             cache = nothing.cache;
             told = nothing.told;
+            agree = nothing.agree;
             stores = nothing.stores;
           }) one)
 
@@ -208,7 +210,7 @@ module _ {S V : Type 0} (store : StoreWords S) (view : ViewWords V) (t : Task) (
   did : (answer : Result Report ExtractFault)
       → WhereTold o b.held.bytes (Assembles t.listing (AreUnused (first_sources store view t o f a b) (from b)) f b.faults answer)
       → EndsBy (IsUnobtained store view t o (first_sources store view t o f a b) (from b)) (Rose f b.faults) answer
-      → (Telling view.tells (views_of view a.kit.seeds.items) → (cached maps : List (Map (List ℕ))) → cached_in a.cache ≡ Some cached → map store.holds a.kit.chain.stores ≡ map Some maps
+      → (Telling view.tells (views_of view a.kit.seeds.items) → (cached maps : List (Map (List ℕ))) → cached_in a.cache ≡ Some cached → maps_of store.members a.kit.chain.stores ≡ Some maps
       → WhereTold o b.held.bytes (λ y z. OnlyObtainable t.listing (IsObtainable t (resized y (image_length t.listing)) (views_of view a.kit.seeds.items) (cached ++ maps)) f b.faults answer y z))
       → WhereQuiet store view t.listing (first_sources store view t o f a b) (from b) (λ cached maps. IfSome o (λ y. Verdict t.listing
       (IsObtainable t (resized y (image_length t.listing)) (views_of view a.kit.seeds.items) (cached ++ maps)) answer))

@@ -20,11 +20,12 @@ use Rattle.assembler.specs.declared.fault.Unsettled.TheVariants as unsettled
 use Rattle.caibx_codec.specs.Listing.{count_of, kind_of, size_of}
 use Rattle.chunk_sources.proofs.Cached.{stocked_told}
 use Rattle.chunk_sources.proofs.Origins.{same_raised, stores_decide}
-use Rattle.chunk_sources.specs.Caches.{OthersAddListed, OthersAddOnly, HaveOneSize, IsAlone, TakesWants, cached_in}
+use Rattle.chunk_sources.specs.Caches.{OthersAddListed, OthersAddOnly, HaveOneSize, IsAlone, TakesWants, cached_in, IsListedAs}
 use Rattle.chunk_sources.specs.Economy.{as_upstream, pass_asks, source_if, source_over, stores_give, sum_below}
 use Rattle.chunk_sources.specs.Sources.{SourcesQuiet, views_of}
 use Rattle.chunk_sources.specs.Wants.{IsAmong, Task}
 use Rattle.chunk_store.specs.declared.store.Store.{Ghosts as StoreWords}
+use Rattle.chunk_store.specs.Members.{maps_of}
 use Rattle.dsy_base.specs.Bytes.{Held}
 use Rattle.dsy_base.specs.Counts.{raised}
 use Rattle.dsy_base.specs.Maps.{Map}
@@ -147,7 +148,7 @@ open_upstream fate.Fetched is = absurd (cc)
 
 module _ {S V : Type 0} (store : StoreWords S) (view : ViewWords V) (t : Task) where
   abbrev Nothing : Stage S V → Stage S V → List (Map (List ℕ)) → List (Map (List ℕ)) → Type 0
-  Nothing a b cached maps = SourcesQuiet store view (from a) (from b) cached maps
+  Nothing a b cached maps = SourcesQuiet store view (kind_of t.listing) (IsListedAs t.listing) (from a) (from b) cached maps
 
   -- from the stage a on
   pub record Paid (done : ℕ → Bool) (a b : Stage S V) : Type 0 where
@@ -183,7 +184,7 @@ module _ {S V : Type 0} (store : StoreWords S) (view : ViewWords V) (t : Task) w
     apart_from v isnt same = true≢false (sym more.now ∙ ap later (sym same) ∙ isnt)
 
     -- the cache gives its chunk as at first
-    give_still : (was now maps : List (Map (List ℕ))) → cached_in a.cache ≡ Some was → cached_in b.cache ≡ Some now → map store.holds a.kit.chain.stores ≡ map Some maps
+    give_still : (was now maps : List (Map (List ℕ))) → cached_in a.cache ≡ Some was → cached_in b.cache ≡ Some now → maps_of store.members a.kit.chain.stores ≡ Some maps
         → HaveOneSize t.listing a.cache was maps → stores_give (kind_of t.listing) (want_id t.listing t.plan w) (size_of t.listing (first_of t.plan w)) now
         ≡ stores_give (kind_of t.listing) (want_id t.listing t.plan w) (size_of t.listing (first_of t.plan w)) was
     give_still was now maps told tells held one =
@@ -191,7 +192,7 @@ module _ {S V : Type 0} (store : StoreWords S) (view : ViewWords V) (t : Task) w
         (λ so. true≢false (sym so ∙ more.wasnt))
 
     -- so its source is what it was at first
-    source_still : (was now maps : List (Map (List ℕ))) → cached_in a.cache ≡ Some was → cached_in b.cache ≡ Some now → map store.holds a.kit.chain.stores ≡ map Some maps
+    source_still : (was now maps : List (Map (List ℕ))) → cached_in a.cache ≡ Some was → cached_in b.cache ≡ Some now → maps_of store.members a.kit.chain.stores ≡ Some maps
         → HaveOneSize t.listing a.cache was maps → source_at view t b now maps w ≡ source_at view t a was maps w
     source_still was now maps told tells held one =
         ap (λ (views : List (Option Held)). source_over t (settled b.fates) views now maps w) first.step.seeds.held
@@ -200,7 +201,7 @@ module _ {S V : Type 0} (store : StoreWords S) (view : ViewWords V) (t : Task) w
 
     -- and others have added nothing else for it
     only_still : OthersAddListed store t.listing a.kit.chain.stores a.cache → (was now maps : List (Map (List ℕ))) → cached_in a.cache ≡ Some was → cached_in b.cache ≡ Some now
-        → map store.holds a.kit.chain.stores ≡ map Some maps → HaveOneSize t.listing a.cache was maps
+        → maps_of store.members a.kit.chain.stores ≡ Some maps → HaveOneSize t.listing a.cache was maps
         → OthersAddOnly (kind_of t.listing) (want_id t.listing t.plan w) (size_of t.listing (first_of t.plan w)) b.cache now maps
     only_still adds was now maps told tells held one =
         let l = t.listing in

@@ -25,12 +25,14 @@ use Rattle.caibx_codec.specs.Right.{IsRightAt}
 use Rattle.chunk_sources.proofs.Cached.{gives_part, stocked_none, stocked_told}
 use Rattle.chunk_sources.proofs.Lacking.{Tells, quiet_never, seeds_never, stores_never, tells_of}
 use Rattle.chunk_sources.proofs.SeedAnswers.{telling_on}
-use Rattle.chunk_sources.specs.Caches.{HaveOneSize, IsAlone, Stocked, TakesWants, cache_faults, cached_in, given_maps}
+use Rattle.chunk_sources.specs.Caches.{HaveOneSize, IsAlone, IsListedAs, Stocked, TakesWants, cache_faults, cached_in, given_maps}
 use Rattle.chunk_sources.specs.Losses.{CopiesFailed}
 use Rattle.chunk_sources.specs.Sources.{KeepsSeeds, SeedsGive, Sources, SourcesQuiet, Telling, counts_of, views_of}
 use Rattle.chunk_sources.specs.Wants.{IsAmong, Task}
 use Rattle.chunk_store.specs.declared.id.ChunkId.{ChunkId}
 use Rattle.chunk_store.specs.declared.store.Store.{Ghosts as StoreWords}
+use Rattle.chunk_store.specs.Giving.{GivesChunk}
+use Rattle.chunk_store.specs.Members.{GroupsAgree, maps_of, told_together}
 use Rattle.dsy_base.proofs.Counts.{rose_later}
 use Rattle.dsy_base.specs.Bytes.{Held, resized}
 use Rattle.dsy_base.specs.Counts.{Rose}
@@ -186,7 +188,7 @@ module _ {S V : Type 0} (store : StoreWords S) (view : ViewWords V) (t : Task) w
     rises = omega (arith, first.rises, next.rises);
     seeds = seeds_on view s0.seeds s1.seeds s2.seeds first.seeds next.seeds;
     stores = kept_on store (IsListedGet t.listing) s0.chain.stores s1.chain.stores s2.chain.stores first.stores next.stores;
-    stocked = stocking_on store t.listing t.plan All All All (λ w below. below) (λ w below. below) s0.chain.stores s1.chain.stores first.stores.held s0.cache s1.cache s2.cache
+    stocked = stocking_on store t.listing t.plan All All All (λ w below. below) (λ w below. below) s0.chain.stores s1.chain.stores first.stores.members s0.cache s1.cache s2.cache
         first.stocked next.stocked;
   }
 
@@ -205,7 +207,7 @@ module _ {S V : Type 0} (store : StoreWords S) (view : ViewWords V) (t : Task) (
     (since : Since store view t old (from a)) (Such : ℕ → Type 0) (base : List ℕ)
     (filled : (i : ℕ) → i < count_of t.listing → settled a.fates i ≡ true → IsRightAt base t.listing i ⊎ Such i)
     (cached maps : List (Map (List ℕ))) (telling : Telling view.tells (views_of view old.seeds)) (told_cache : given_maps old.cache ≡ Some cached)
-    (told : map store.holds old.chain.stores ≡ map Some maps) where
+    (told : maps_of store.members old.chain.stores ≡ Some maps) where
   abbrev CanBeHad : ℕ → Type 0
   CanBeHad i = IsObtainable t base (views_of view old.seeds) (cached ++ maps) i
 
@@ -351,13 +353,13 @@ module _ {S V : Type 0} (store : StoreWords S) (view : ViewWords V) (t : Task) (
       abbrev pub SuchCan : List ℕ → Type 0
       SuchCan y = (i : ℕ) → i < count_of t.listing → Such i → Can y i
 
-      module _ (telling : Telling view.tells views) (told_cache : cached_in old.cache ≡ Some cached) (told : map store.holds old.chain.stores ≡ map Some maps) where
+      module _ (telling : Telling view.tells views) (told_cache : cached_in old.cache ≡ Some cached) (told : maps_of store.members old.chain.stores ≡ Some maps) where
         had_at : (i : ℕ) → i < count_of t.listing → settled b.fates i ≡ true → HadAt t a.fates views (cached ++ maps) i
         had_at i inside is =
             let given = alone_given old.cache done.alone ∙ told_cache in
             let later = given_told (TakesWants store t.listing t.plan Each old.chain.stores) old.cache a.cache cached done.since.stocked given in
             had_from t done.wants store view Each old (from a) done.since.seeds.held done.since.stocked cached later.0 maps given later.1 told a.fates (want_at t.plan i)
-            (done.had (telling_on view.tells views (views_of view a.kit.seeds.items) done.since.seeds.held telling) later.0 maps later.1 (done.since.stores.held ∙ told) i inside is)
+            (done.had (telling_on view.tells views (views_of view a.kit.seeds.items) done.since.seeds.held telling) later.0 maps later.1 (ap told_together done.since.stores.members ∙ told) i inside is)
 
         -- what is settled can be obtained
         can : (y : List ℕ) → Found y → SuchCan y → (i : ℕ) → i < count_of t.listing → settled b.fates i ≡ true → Can y i
@@ -376,7 +378,7 @@ module _ {S V : Type 0} (store : StoreWords S) (view : ViewWords V) (t : Task) (
 
       -- ---- where nothing fails
 
-      module _ (nothing : SourcesQuiet store view old (from b) cached maps) (one : HaveOneSize t.listing old.cache cached maps) where
+      module _ (nothing : SourcesQuiet store view (kind_of t.listing) (IsListedAs t.listing) old (from b) cached maps) (one : HaveOneSize t.listing old.cache cached maps) where
         -- the stores didn't fail in the call that refused
         sound : (lost : Lost) → RefusedOnce store view t lost old.chain.stores b.kit.chain.stores → (s : ℕ) → lost.refused ≡ refused.StoreFault s → ⊥
         sound lost is s failed =
@@ -399,8 +401,11 @@ module _ {S V : Type 0} (store : StoreWords S) (view : ViewWords V) (t : Task) (
               quiet_never (cache_faults old.cache) (cache_faults b.cache) nothing.cache ((unobtained lost is).cache later.0 later.1 gives)
           | inr stores ↦
               let stores_refused = (unobtained lost is).stores in
-              stores_never (kind_of t.listing) lost.id (size_of t.listing lost.entry) maps lost.refused tells (sound lost stores_refused)
-              (stores_refused.refused.lacks maps (stores_refused.until.held ∙ nothing.told))
+              let kept = stores_refused.until.members in
+              stores_never (kind_of t.listing) lost.id (size_of t.listing lost.entry) (map store.members stores_refused.before) maps (ap told_together kept ∙ nothing.told)
+              (subst (GroupsAgree (λ m. GivesChunk (kind_of t.listing) lost.id.0 (size_of t.listing lost.entry) (m lost.id.0))) (sym kept)
+              (nothing.agree lost.id.0 (size_of t.listing lost.entry) (lost.entry, is.listed, sym is.id_is, refl)))
+              lost.refused tells (sound lost stores_refused) stores_refused.refused.together
               (subst (λ q. SomeGives (kind_of t.listing) q (size_of t.listing lost.entry) maps) (sym is.id_is) stores)
         ]
 

@@ -1,5 +1,5 @@
 -- Where the chunks of settled entries came from, from one want to the next.
-use Rattle.std.proofs.Common.{◌≡◌, ◌++◌, Some, ℕ, ◌<◌, Bool, List, length, map, Option, true, false, refl, sym, ◌∙◌, subst, inl, inr, arith}
+use Rattle.std.proofs.Common.{◌≡◌, ◌++◌, Some, ℕ, ◌<◌, Bool, List, length, Option, true, false, refl, sym, ◌∙◌, subst, inl, inr, arith, ap}
 use Rattle.std.proofs.lemmas.Bool.{cases_Bool}
 use Rattle.assembler.proofs.Others.{given_gave, given_told}
 use Rattle.assembler.proofs.Stocking.{gave_by}
@@ -9,6 +9,7 @@ use Rattle.chunk_sources.specs.Losses.{Had}
 use Rattle.chunk_sources.specs.Sources.{Sources, views_of}
 use Rattle.chunk_sources.specs.Wants.{IsAmong, Task, want_chunk}
 use Rattle.chunk_store.specs.declared.store.Store.{Ghosts as StoreWords}
+use Rattle.chunk_store.specs.Members.{maps_of, told_together}
 use Rattle.assembler.proofs.Entries.{among, among_of, listed_of}
 use Rattle.assembler.specs.Passes.{HadAll, HadAt, want_at}
 use Rattle.assembler.specs.Permits.{MayFillHad}
@@ -65,7 +66,7 @@ module _ (t : Task) (wants : AreWants t.listing t.plan.wants t.plan.want_of) whe
     -- what was obtained from the cache as it was then was obtained from it as it was at first, or from a store
     pub had_from : (A : ℕ → Type 0) (old new : Sources S V) → views_of view new.seeds ≡ views_of view old.seeds
         → Stocked (TakesWants store t.listing t.plan A old.chain.stores) old.cache new.cache → (was now maps : List (Map (List ℕ))) → given_maps old.cache ≡ Some was
-        → given_maps new.cache ≡ Some now → map store.holds old.chain.stores ≡ map Some maps → (m : List Fate) (w : ℕ)
+        → given_maps new.cache ≡ Some now → maps_of store.members old.chain.stores ≡ Some maps → (m : List Fate) (w : ℕ)
         → Had m (want_chunk t w) (views_of view new.seeds) (now ++ maps) → Had m (want_chunk t w) (views_of view old.seeds) (was ++ maps)
     had_from A old new seeds stocked was now maps told tells held m w (inl settled_then) = inl settled_then
     had_from A old new seeds stocked was now maps told tells held m w (inr (inl seed)) = subst (λ v. Had m (want_chunk t w) v (was ++ maps)) seeds (inr (inl seed))
@@ -82,7 +83,7 @@ module _ (t : Task) (wants : AreWants t.listing t.plan.wants t.plan.want_of) whe
         had_by a.fates b.fates b.fates (views_of view a.kit.seeds.items) (cached ++ maps) w (before told cached maps tells are)
         (had_from A (from a) (from b) over.step.seeds.held over.stocked cached later.0 maps tells later.1 are b.fates w
         (has (telling_on view.tells (views_of view a.kit.seeds.items) (views_of view b.kit.seeds.items) over.step.seeds.held told) later.0 maps later.1
-        (over.step.stores.held ∙ are))))
+        (ap told_together over.step.stores.members ∙ are))))
 
     -- after one more want
     pub had_more : (A : ℕ → Type 0) (a b c : Stage S V) (w : ℕ) → Stretch store view t A a b → Settles store view t w b c
@@ -92,4 +93,4 @@ module _ (t : Task) (wants : AreWants t.listing t.plan.wants t.plan.want_of) whe
         had_on a.fates b.fates c.fates (views_of view a.kit.seeds.items) (cached ++ maps) w (before told cached maps has are) by.only
         (λ i isnt is. had_from A (from a) (from b) over.step.seeds.held over.stocked cached later.0 maps has later.1 are b.fates w
         (by.had (telling_on view.tells (views_of view a.kit.seeds.items) (views_of view b.kit.seeds.items) over.step.seeds.held told) later.0 maps later.1
-        (over.step.stores.held ∙ are) i isnt is))
+        (ap told_together over.step.stores.members ∙ are) i isnt is))

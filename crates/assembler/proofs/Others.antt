@@ -14,6 +14,7 @@ use Rattle.chunk_store.specs.Folders.{chunks}
 use Rattle.chunk_store.specs.Giving.{IsChunk}
 use Rattle.chunk_store.specs.declared.id.DigestKind.{DigestKind}
 use Rattle.chunk_store.specs.declared.store.Store.{Ghosts as StoreWords}
+use Rattle.chunk_store.specs.Members.{told_together}
 use Rattle.dsy_base.specs.Maps.{Map}
 use Rattle.dsy_base.specs.declared.look.Look.{Ghosts as LookWords}
 
@@ -90,13 +91,13 @@ suits_alone words store l stores e unnamed alone = record {
   named (Some s) = λ none. unnamed
 
 module _ {C S : Type 0} (words : CacheWords C) (store : StoreWords S) (l : Listing) where
-  pub suits_on : (Takes : List ℕ → List ℕ → Type 0) (s0 s1 : List S) (e f : Option Shelf) → map store.holds s1 ≡ map store.holds s0 → Stocked Takes e f
+  pub suits_on : (Takes : List ℕ → List ℕ → Type 0) (s0 s1 : List S) (e f : Option Shelf) → map store.members s1 ≡ map store.members s0 → Stocked Takes e f
       → Suits words store l s0 e → Suits words store l s1 f
   suits_on Takes s0 s1 e f same stocked suits =
       let All : List S → Type 0 = λ s. (q b : List ℕ) → TakesListed store l s q b → MayAdd (kind_of l) words.pairs words.stores q b in
       record {
         takes = shared_map (All s0) (All s1)
-            (λ may q b takes. may q b (takes.0, takes.1, (takes.2.0, takes.2.1, λ maps told. takes.2.2 maps (same ∙ told))))
+            (λ may q b takes. may q b (takes.0, takes.1, (takes.2.0, takes.2.1, λ maps told. takes.2.2 maps (ap told_together same ∙ told))))
             f (shared_on Takes (All s0) e f stocked suits.takes);
         own = own_on Takes ((words.pairs ≡ None) × (words.stores ≡ None)) e f stocked suits.own;
       }

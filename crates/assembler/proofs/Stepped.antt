@@ -86,7 +86,7 @@ module _ {S V : Type 0} (store : StoreWords S) (view : ViewWords V) where
     pub stretch_on : (A B C : ℕ → Type 0) → ((w : ℕ) → A w → C w) → ((w : ℕ) → B w → C w) → (a b c : Stage S V) → Over A a b → Over B b c → Over C a c
     stretch_on A B C one other a b c first next = record {
       step = step_on t.listing a b c first.step next.step;
-      stocked = stocking_on store t.listing t.plan A B C one other a.kit.chain.stores b.kit.chain.stores first.step.stores.held a.cache b.cache c.cache
+      stocked = stocking_on store t.listing t.plan A B C one other a.kit.chain.stores b.kit.chain.stores first.step.stores.members a.cache b.cache c.cache
           first.stocked next.stocked;
     }
 
@@ -111,7 +111,7 @@ module _ {S V : Type 0} (store : StoreWords S) (view : ViewWords V) where
     pub suits_since : {C : Type 0} (words : CacheWords C) (A : ℕ → Type 0) (a b : Stage S V) → Over A a b → Suits words store t.listing a.kit.chain.stores a.cache
         → Suits words store t.listing b.kit.chain.stores b.cache
     suits_since words A a b over suits =
-        suits_on words store t.listing (TakesWants store t.listing t.plan A a.kit.chain.stores) a.kit.chain.stores b.kit.chain.stores a.cache b.cache over.step.stores.held over.stocked suits
+        suits_on words store t.listing (TakesWants store t.listing t.plan A a.kit.chain.stores) a.kit.chain.stores b.kit.chain.stores a.cache b.cache over.step.stores.members over.stocked suits
 
     pub alone_since : (A : ℕ → Type 0) (a b : Stage S V) → Over A a b → IsAlone a.cache → IsAlone b.cache
     alone_since A a b over alone = alone_on (TakesWants store t.listing t.plan A a.kit.chain.stores) a.cache b.cache over.stocked alone

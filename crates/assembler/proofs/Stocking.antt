@@ -13,6 +13,7 @@ use Rattle.chunk_sources.specs.Caches.{HaveOneSize, IsListedAs, Stocked, TakesLi
 use Rattle.chunk_sources.specs.Economy.{stores_give}
 use Rattle.chunk_store.specs.Giving.{GivesChunk, IsChunk}
 use Rattle.chunk_store.specs.declared.store.Store.{Ghosts as StoreWords}
+use Rattle.chunk_store.specs.Members.{maps_of, told_together}
 use Rattle.dsy_base.specs.Maps.{Map}
 use Rattle.extract_plan.specs.Deal.{AreWants, Deal, first_of, want_id}
 
@@ -34,28 +35,28 @@ module _ {S : Type 0} (store : StoreWords S) (l : Listing) (d : Deal) where
   Takes Among stores = TakesWants store l d Among stores
 
   -- stores that hold the same, and more wants
-  pub takes_more : (A B : ℕ → Type 0) → ((w : ℕ) → A w → B w) → (s0 s1 : List S) → map store.holds s1 ≡ map store.holds s0 → (q b : List ℕ) → Takes A s1 q b → Takes B s0 q b
-  takes_more A B more s0 s1 same q b (w, among, (is, chunk, held)) = (w, more w among, (is, chunk, λ maps told. held maps (same ∙ told)))
+  pub takes_more : (A B : ℕ → Type 0) → ((w : ℕ) → A w → B w) → (s0 s1 : List S) → map store.members s1 ≡ map store.members s0 → (q b : List ℕ) → Takes A s1 q b → Takes B s0 q b
+  takes_more A B more s0 s1 same q b (w, among, (is, chunk, held)) = (w, more w among, (is, chunk, λ maps told. held maps (ap told_together same ∙ told)))
 
   pub stocking_wider : (A B : ℕ → Type 0) → ((w : ℕ) → A w → B w) → (s : List S) (e f : Option Shelf) → Stocked (Takes A s) e f → Stocked (Takes B s) e f
   stocking_wider A B more s e f stocked = stocked_wider (Takes A s) (Takes B s) (takes_more A B more s s refl) e f stocked
 
   -- one stretch and then another
-  pub stocking_on : (A B C : ℕ → Type 0) → ((w : ℕ) → A w → C w) → ((w : ℕ) → B w → C w) → (s0 s1 : List S) → map store.holds s1 ≡ map store.holds s0
+  pub stocking_on : (A B C : ℕ → Type 0) → ((w : ℕ) → A w → C w) → ((w : ℕ) → B w → C w) → (s0 s1 : List S) → map store.members s1 ≡ map store.members s0
       → (e f g : Option Shelf) → Stocked (Takes A s0) e f → Stocked (Takes B s1) f g → Stocked (Takes C s0) e g
   stocking_on A B C a b s0 s1 same e f g first next =
       stocked_on (Takes C s0) e f g (stocked_wider (Takes A s0) (Takes C s0) (takes_more A C a s0 s0 refl) e f first)
       (stocked_wider (Takes B s1) (Takes C s0) (takes_more B C b s0 s1 same) f g next)
 
   -- what was added some store gives
-  pub takes_give : (A : ℕ → Type 0) (stores : List S) (maps : List (Map (List ℕ))) (id b : List ℕ) (n : ℕ) → map store.holds stores ≡ map Some maps
+  pub takes_give : (A : ℕ → Type 0) (stores : List S) (maps : List (Map (List ℕ))) (id b : List ℕ) (n : ℕ) → maps_of store.members stores ≡ Some maps
       → Takes A stores id b → IsChunk (kind_of l) id n b → SomeGives (kind_of l) id n maps
   takes_give A stores maps id b n told (w, among, (is, chunk, held)) right =
       any_map (λ (m : Map (List ℕ)). m id ≡ Some b) (λ (m : Map (List ℕ)). GivesChunk (kind_of l) id n (m id)) (λ m at. (b, at, right)) maps
       (subst (λ (q : List ℕ). Any (λ (m : Map (List ℕ)). m q ≡ Some b) maps) (sym is) (held maps told))
 
   -- where what a cache gives it gave before, or it was added, the cache and the stores together gave what they give
-  pub gave_by : (A : ℕ → Type 0) (stores : List S) (was now maps : List (Map (List ℕ))) → map store.holds stores ≡ map Some maps → (id : List ℕ) (n : ℕ)
+  pub gave_by : (A : ℕ → Type 0) (stores : List S) (was now maps : List (Map (List ℕ))) → maps_of store.members stores ≡ Some maps → (id : List ℕ) (n : ℕ)
       → (SomeGives (kind_of l) id n now → SomeGives (kind_of l) id n was ⊎ ((b : List ℕ) × Takes A stores id b × IsChunk (kind_of l) id n b))
       → SomeGives (kind_of l) id n (now ++ maps) → SomeGives (kind_of l) id n (was ++ maps)
   gave_by A stores was now maps held id n gave gives = elim (gives_part (kind_of l) id n now maps gives) [
@@ -67,7 +68,7 @@ module _ {S : Type 0} (store : StoreWords S) (l : Listing) (d : Deal) where
   ]
 
   module _ (A : ℕ → Type 0) (stores : List S) (e f : Option Shelf) (was now maps : List (Map (List ℕ))) (stocked : Stocked (Takes A stores) e f)
-      (told : cached_in e ≡ Some was) (tells : cached_in f ≡ Some now) (held : map store.holds stores ≡ map Some maps) where
+      (told : cached_in e ≡ Some was) (tells : cached_in f ≡ Some now) (held : maps_of store.members stores ≡ Some maps) where
     -- the cache and the stores together gave what they give
     gave_from : (id : List ℕ) (n : ℕ) → SomeGives (kind_of l) id n (now ++ maps) → SomeGives (kind_of l) id n (was ++ maps)
     gave_from id n gives = gave_by A stores was now maps held id n (stocked_gave (Takes A stores) (kind_of l) id n e f was now stocked told tells) gives

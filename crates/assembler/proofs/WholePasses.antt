@@ -1,5 +1,5 @@
 -- Both passes as one: a before them, b between and c after them.
-use Rattle.std.proofs.Common.{◌≡◌, ◌++◌, ℕ, ◌+◌, ◌<◌, Result, false, inl, inr, sym, ◌∙◌, arith}
+use Rattle.std.proofs.Common.{◌≡◌, ◌++◌, ℕ, ◌+◌, ◌<◌, Result, false, inl, inr, sym, ◌∙◌, arith, ap}
 use Rattle.assembler.proofs.Asked.{asks_on, asks_up, spared_first, spared_rest}
 use Rattle.assembler.proofs.EconomyPasses.{passes_by}
 use Rattle.assembler.proofs.EconomyQuiet.{nothing_first, nothing_next}
@@ -23,6 +23,7 @@ use Rattle.chunk_sources.specs.Caches.{IsAlone, TakesWants}
 use Rattle.chunk_sources.specs.Sources.{views_of}
 use Rattle.chunk_sources.specs.Wants.{Task}
 use Rattle.chunk_store.specs.declared.store.Store.{Ghosts as StoreWords}
+use Rattle.chunk_store.specs.Members.{told_together}
 use Rattle.dsy_base.proofs.Counts.{rose_later}
 use Rattle.dsy_base.specs.declared.view.View.{Ghosts as ViewWords}
 use Rattle.extract_plan.specs.Deal.{AreWants, want_id}
@@ -51,7 +52,7 @@ module _ {S V : Type 0} (store : StoreWords S) (view : ViewWords V) (t : Task) (
           let over = first.stretch in
           let views : Stage S V → _ = λ x. views_of view x.kit.seeds.items in
           let later = given_told (TakesWants store t.listing t.plan All a.kit.chain.stores) a.cache b.cache cached over.stocked has in
-          let had = next.had (telling_on view.tells (views a) (views b) over.step.seeds.held tells) later.0 maps later.1 (over.step.stores.held ∙ told) i inside is in
+          let had = next.had (telling_on view.tells (views a) (views b) over.step.seeds.held tells) later.0 maps later.1 (ap told_together over.step.stores.members ∙ told) i inside is in
           had_through t wants a.fates b.fates (views a) (cached ++ maps) i inside (first.had tells cached maps has told)
           (had_from t wants store view All (from a) (from b) over.step.seeds.held over.stocked cached later.0 maps has later.1 told b.fates (want_at t.plan i) had);
       asks = λ spared are.

@@ -1,6 +1,6 @@
 -- How an assembly may end. `o` are the target's bytes before it, the base is `o` with the image's length, t are the
 -- bytes after it. The count of the target's faults goes from old to new.
-use Rattle.std.specs.Prelude.{◌≡◌, ◌⊎◌, ℕ, ◌<◌, List, ◌++◌, length, map, true, Bool, Option, Some, IfOk, IfSome}
+use Rattle.std.specs.Prelude.{◌≡◌, ◌⊎◌, ℕ, ◌<◌, List, ◌++◌, length, true, Bool, Option, Some, IfOk, IfSome}
 use Rattle.std.specs.Prelude.{IsSomeAnd, Result, Ok, Err}
 use Rattle.std.specs.List.{Contains}
 use Rattle.assembler.specs.Economy.{AsksExactly, ReportsExactly}
@@ -20,6 +20,7 @@ use Rattle.chunk_sources.specs.Economy.{source_of}
 use Rattle.chunk_sources.specs.Sources.{KeepsSeeds, SeedsFailed, SeedsGive, Sources, Telling, counts_of, views_of}
 use Rattle.chunk_sources.specs.Wants.{Task}
 use Rattle.chunk_store.specs.declared.store.Store.{Ghosts as StoreWords}
+use Rattle.chunk_store.specs.Members.{maps_of}
 use Rattle.dsy_base.specs.Bytes.{Held, resized}
 use Rattle.dsy_base.specs.Counts.{Rose}
 use Rattle.dsy_base.specs.Maps.{Map}
@@ -131,7 +132,7 @@ module _ {S V : Type 0} (store : StoreWords S) (view : ViewWords V) (t : Task) w
     pub bytes : WhereTold o p (Assembles t.listing (AreUnused old new) old.faults new.faults answer)
     pub lost : EndsBy (IsUnobtained o old new) (Rose old.faults new.faults) answer
     pub had : Telling view.tells (views_of view old.seeds) → (cached maps : List (Map (List ℕ)))
-        → cached_in old.cache ≡ Some cached → map store.holds old.chain.stores ≡ map Some maps
+        → cached_in old.cache ≡ Some cached → maps_of store.members old.chain.stores ≡ Some maps
         → WhereTold o p (λ y z. OnlyObtainable t.listing (IsObtainable t (resized y (image_length t.listing))
         (views_of view old.seeds) (cached ++ maps)) old.faults new.faults answer y z)
     pub exactly : WhereQuiet store view t.listing old new (λ cached maps. IfSome o (λ y. Verdict t.listing

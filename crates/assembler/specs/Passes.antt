@@ -1,5 +1,5 @@
 -- What a pass over the wants of an index leaves.
-use Rattle.std.specs.Prelude.{◌≡◌, ◌≢◌, ◌⊎◌, ◌++◌, ℕ, ◌+◌, ◌<◌, List, map, slice_index, Bool, true, false, Option, Some}
+use Rattle.std.specs.Prelude.{◌≡◌, ◌≢◌, ◌⊎◌, ◌++◌, ℕ, ◌+◌, ◌<◌, List, slice_index, Bool, true, false, Option, Some}
 use Rattle.std.specs.Prelude.{Result, Ok, Err, IfErr, OnOk}
 use Rattle.assembler.specs.Faults.{fault_of}
 use Rattle.assembler.specs.Losses.{lost_want}
@@ -10,12 +10,13 @@ use Rattle.assembler.specs.declared.fault.Lost.{Lost}
 use Rattle.caibx_codec.specs.Asks.{IsListedGet}
 use Rattle.caibx_codec.specs.Listing.{Listing, count_of, id_of, kind_of, size_of}
 use Rattle.chunk_sources.specs.Asks.{AreSpared, AsksAtMost, ShareAsks, asks_below, calls_below}
-use Rattle.chunk_sources.specs.Caches.{CacheLacks, HaveOneSize, given_maps}
+use Rattle.chunk_sources.specs.Caches.{CacheLacks, HaveOneSize, given_maps, IsListedAs}
 use Rattle.chunk_sources.specs.Economy.{source_over}
 use Rattle.chunk_sources.specs.Losses.{CopiesFailed, Had, MayLack, RefusedBy}
 use Rattle.chunk_sources.specs.Sources.{SeedsFailed, Sources, SourcesQuiet, Telling, counts_of, views_of}
 use Rattle.chunk_sources.specs.Wants.{IsAmong, Task, want_chunk}
 use Rattle.chunk_store.specs.declared.store.Store.{Ghosts as StoreWords}
+use Rattle.chunk_store.specs.Members.{maps_of}
 use Rattle.dsy_base.specs.Bytes.{Held}
 use Rattle.dsy_base.specs.Counts.{Rose}
 use Rattle.dsy_base.specs.Maps.{Map}
@@ -71,7 +72,8 @@ module _ {S V : Type 0} (store : StoreWords S) (view : ViewWords V) where
   -- id
   abbrev pub WhereQuiet : Listing → Sources S V → Sources S V
       → (List (Map (List ℕ)) → List (Map (List ℕ)) → Type 0) → Type 0
-  WhereQuiet l old new P = (cached maps : List (Map (List ℕ))) → SourcesQuiet store view old new cached maps
+  WhereQuiet l old new P = (cached maps : List (Map (List ℕ))) → SourcesQuiet store view
+      (kind_of l) (IsListedAs l) old new cached maps
       → HaveOneSize l old.cache cached maps → P cached maps
 
   module _ (t : Task) where
@@ -103,7 +105,7 @@ module _ {S V : Type 0} (store : StoreWords S) (view : ViewWords V) where
     -- where the chunk of each entry that is settled now may have come from, over a stage
     abbrev pub HadAll : Stage S V → List Fate → Type 0
     HadAll a now = Telling view.tells (views_of view a.kit.seeds.items) → (cached maps : List (Map (List ℕ)))
-        → given_maps a.cache ≡ Some cached → map store.holds a.kit.chain.stores ≡ map Some maps
+        → given_maps a.cache ≡ Some cached → maps_of store.members a.kit.chain.stores ≡ Some maps
         → (i : ℕ) → i < count_of t.listing → settled now i ≡ true
         → HadAt t a.fates (views_of view a.kit.seeds.items) (cached ++ maps) i
 

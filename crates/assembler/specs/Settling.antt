@@ -1,5 +1,5 @@
 -- What settling the entries of one want leaves.
-use Rattle.std.specs.Prelude.{◌≡◌, ◌≢◌, ◌⊎◌, ◌++◌, ℕ, List, map, Some, true, false, Result, Err, OnOk}
+use Rattle.std.specs.Prelude.{◌≡◌, ◌≢◌, ◌⊎◌, ◌++◌, ℕ, List, Some, true, false, Result, Err, OnOk}
 use Rattle.assembler.specs.Losses.{IsFirstOpen, Where, lost_want}
 use Rattle.assembler.specs.Stages.{Stage, Stretch, from}
 use Rattle.assembler.specs.declared.fault.Unsettled.{Unsettled}
@@ -10,6 +10,7 @@ use Rattle.chunk_sources.specs.Losses.{AskedLast, Had, MayLack, RefusedBy}
 use Rattle.chunk_sources.specs.Sources.{Telling, views_of}
 use Rattle.chunk_sources.specs.Wants.{IsAmong, Task, want_chunk}
 use Rattle.chunk_store.specs.declared.store.Store.{Ghosts as StoreWords}
+use Rattle.chunk_store.specs.Members.{maps_of}
 use Rattle.dsy_base.specs.Counts.{Rose}
 use Rattle.dsy_base.specs.Maps.{Map}
 use Rattle.dsy_base.specs.declared.view.View.{Ghosts as ViewWords}
@@ -23,7 +24,7 @@ module _ {S V : Type 0} (store : StoreWords S) (view : ViewWords V) (t : Task) (
   pub record Settles : Type 0 where
     pub only : (i : ℕ) → settled a.fates i ≡ false → settled b.fates i ≡ true → IsAmong (of_want t.plan w) i
     pub had : Telling view.tells (views_of view a.kit.seeds.items) → (cached maps : List (Map (List ℕ)))
-        → given_maps a.cache ≡ Some cached → map store.holds a.kit.chain.stores ≡ map Some maps
+        → given_maps a.cache ≡ Some cached → maps_of store.members a.kit.chain.stores ≡ Some maps
         → (i : ℕ) → settled a.fates i ≡ false → settled b.fates i ≡ true
         → Had a.fates (want_chunk t w) (views_of view a.kit.seeds.items) (cached ++ maps)
     pub asks : (b.kit.chain ≡ a.kit.chain) ⊎ AskedLast store view (want_chunk t w) a.fates (from a) (from b)

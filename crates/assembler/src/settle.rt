@@ -13,13 +13,14 @@ ghost use Rattle.cache_store.specs.Shelves.{MayAdd};
 ghost use Rattle.caibx_codec.specs.Listing.{count_of, kind_of, size_of};
 ghost use Rattle.extract_plan.specs.Deal.{first_of, want_id};
 ghost use Rattle.chunk_sources.specs.AnyCaches.{Suits, seen_in};
-ghost use Rattle.chunk_sources.specs.Caches.{OthersAddOnly, CacheLacks, IfShared};
+ghost use Rattle.chunk_sources.specs.Caches.{OthersAddOnly, CacheLacks, IfShared, IsListedAs};
 ghost use Rattle.chunk_sources.specs.Caches.{IsAlone, Stocked, TakesChunk, given_maps};
 ghost use Rattle.chunk_sources.specs.Economy.{source_among};
 ghost use Rattle.chunk_sources.specs.Losses.{AskedLast, Had, HadOver, MayLack, RefusedBy, chunk_of};
-ghost use Rattle.chunk_sources.specs.Sources.{KeepsSeeds, SourcesQuiet, Telling, sources, views_of};
+ghost use Rattle.chunk_sources.specs.Sources.{IsThis, KeepsSeeds, SourcesQuiet, Telling, sources, views_of};
 ghost use Rattle.chunk_sources.specs.Wants.{AllOf, IsAmong, sought_chunk};
 ghost use Rattle.chunk_store.specs.Asks.{Get};
+ghost use Rattle.chunk_store.specs.Members.{maps_of};
 ghost use Rattle.dsy_base.specs.Counts.{Rose};
 ghost use Rattle.dsy_base.specs.Maps.{Map};
 ghost use Rattle.extract_plan.specs.Places.{PlacesFit};
@@ -97,10 +98,10 @@ fn settle_open<E: Ledger, S: Store, V: View, C: Cache>(
     ensures only { (i : ℕ) → settled (E.fates ledger.old) i ≡ false → settled (E.fates ledger.new) i ≡ true →
         IsAmong opened.now.sought.entries.now i }
     ensures had { Telling V.tells (views_of V.View seeds.old) → (cached maps : List (Map (List ℕ))) →
-        given_maps (seen_in C.Cache cache.old) ≡ Some cached → map S.holds chain.old.stores ≡ map Some maps → (i : ℕ) →
-        settled (E.fates ledger.old) i ≡ false → settled (E.fates ledger.new) i ≡ true → Had (E.fates ledger.old)
-        (sought_chunk (kind_of E.run.listing) opened.now.sought opened.now.size) (views_of V.View seeds.old)
-        (cached ++ maps) }
+        given_maps (seen_in C.Cache cache.old) ≡ Some cached → maps_of S.members chain.old.stores ≡ Some maps →
+        (i : ℕ) → settled (E.fates ledger.old) i ≡ false → settled (E.fates ledger.new) i ≡ true →
+        Had (E.fates ledger.old) (sought_chunk (kind_of E.run.listing) opened.now.sought opened.now.size)
+        (views_of V.View seeds.old) (cached ++ maps) }
     ensures lost { Where (λ x. (x.entry ≡ opened.now.entry) × (x.id ≡ opened.now.sought.id))
         (Rose (E.faults ledger.old) (E.faults ledger.new)) result }
     ensures failed { result ≡ Err Unsettled.TargetFault → (i : ℕ) × IsAmong opened.now.sought.entries.now i
@@ -125,7 +126,7 @@ fn settle_open<E: Ledger, S: Store, V: View, C: Cache>(
 
     // Where nothing fails, and nobody else fills the cache.
     ensures exactly { IsAlone (seen_in C.Cache cache.old) → (cached maps : List (Map (List ℕ))) →
-        SourcesQuiet S.Store V.View
+        SourcesQuiet S.Store V.View (kind_of E.run.listing) (IsThis opened.now.sought.id.0 opened.now.size)
         (sources (E.faults ledger.old) seeds.old (seen_in C.Cache cache.old) chain.old)
         (sources (E.faults ledger.new) seeds.new (seen_in C.Cache cache.new) chain.new) cached maps →
         SettlesBy (source_among (settled (E.fates ledger.old))
@@ -134,6 +135,7 @@ fn settle_open<E: Ledger, S: Store, V: View, C: Cache>(
     // Where nothing fails, whoever fills the cache.
     ensures shared { (cached maps : List (Map (List ℕ))) → OthersAddOnly (kind_of E.run.listing) opened.now.sought.id.0
         opened.now.size (seen_in C.Cache cache.old) cached maps → SourcesQuiet S.Store V.View
+        (kind_of E.run.listing) (IsThis opened.now.sought.id.0 opened.now.size)
         (sources (E.faults ledger.old) seeds.old (seen_in C.Cache cache.old) chain.old)
         (sources (E.faults ledger.new) seeds.new (seen_in C.Cache cache.new) chain.new) cached maps →
         SettledShared (source_among (settled (E.fates ledger.old))
@@ -187,7 +189,7 @@ pub(crate) fn settle<E: Ledger, S: Store, V: View, C: Cache>(
 
     // Where nothing fails, and nobody else fills the cache.
     ensures exactly { IsAlone (seen_in C.Cache work.old.cache) → (cached maps : List (Map (List ℕ))) →
-        SourcesQuiet S.Store V.View
+        SourcesQuiet S.Store V.View (kind_of E.run.listing) (IsListedAs E.run.listing)
         (from (stage E.Ledger C.Cache work.old)) (from (stage E.Ledger C.Cache work.new)) cached maps →
         SettlesBy (source_at V.View (task E.run.listing wants.now) (stage E.Ledger C.Cache work.old) cached maps
         want) (count_of E.run.listing) (E.fates work.old.ledger) (E.fates work.new.ledger) work.old.kit.chain
@@ -196,6 +198,7 @@ pub(crate) fn settle<E: Ledger, S: Store, V: View, C: Cache>(
     ensures shared { (cached maps : List (Map (List ℕ))) → OthersAddOnly (kind_of E.run.listing)
         (want_id E.run.listing wants.now.plan.now want) (size_of E.run.listing (first_of wants.now.plan.now want))
         (seen_in C.Cache work.old.cache) cached maps → SourcesQuiet S.Store V.View
+        (kind_of E.run.listing) (IsListedAs E.run.listing)
         (from (stage E.Ledger C.Cache work.old)) (from (stage E.Ledger C.Cache work.new)) cached maps →
         SettledShared (source_at V.View (task E.run.listing wants.now) (stage E.Ledger C.Cache work.old) cached maps
         want) (count_of E.run.listing) (E.fates work.old.ledger) (E.fates work.new.ledger) result }

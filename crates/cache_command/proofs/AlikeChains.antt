@@ -5,7 +5,7 @@ use Rattle.command_groups.proofs.LentChains.{chains_later}
 use Rattle.command_groups.specs.Chains.{CanGiveChain, IsChainOpened, chain_groups}
 use Rattle.cache_command.specs.Filling.{JustOpened}
 use Rattle.cache_store.specs.Shelves.{Shelf}
-use Rattle.command_groups.proofs.Alike.{hold_alike}
+use Rattle.command_groups.proofs.Alike.{hold_alike, members_alike}
 use Rattle.command_groups.proofs.Stand.{fresh_first}
 use Rattle.command_groups.proofs.Words.{group_words}
 use Rattle.command_groups.specs.Groups.{stores_of}
@@ -55,6 +55,9 @@ module _ {L D K : Type 0} (look : LookWords L) (state : D → DialState) where
         alike = record {
           held = λ n c lt. let is = opened_all n c lt in
               hold_alike look.files look.place look.never_fails tells look.tells told seen a.folders tells_are names (slice_index_or more n c).stores first.stores is.located located is.found found_here
+              (fresh_first (source_faults look.faults state) again (slice_index_or more n c).stores is.fresh) (fresh_first (source_faults look.faults state) again first.stores fresh_here);
+          members = λ n c lt. let is = opened_all n c lt in
+              members_alike look.files look.place look.never_fails tells look.tells told seen a.folders tells_are names (slice_index_or more n c).stores first.stores is.located located is.found found_here
               (fresh_first (source_faults look.faults state) again (slice_index_or more n c).stores is.fresh) (fresh_first (source_faults look.faults state) again first.stores fresh_here);
         };
         found = All-cons (λ c. IfSome (with_cache (Some s) m).folders (λ y. map (files_in look.files) c.stores ≡ map (map (location_files y)) (chain_groups look c))) first more

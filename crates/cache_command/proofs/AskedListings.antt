@@ -58,9 +58,10 @@ module _ {S : Type 0} (store : StoreWords S) where
   all_listed l c d cs ds asks keeps ahead = (listed_by l c d asks keeps, each_weaker (FetchesAhead store l) (AsksListings store (l ∷ [])) (λ a b h. listed_by l a b h.asks h.stores) cs ds ahead)
 
   -- what they hold they hold still
-  pub alike_on : (l : Listing) (c d : Chained S) (cs ds : List (Chained S)) → map store.holds d.stores ≡ map store.holds c.stores → AllZip (FetchesAhead store l) cs ds → HoldAlike store c cs → HoldAlike store d ds
-  alike_on l c d cs ds held ahead alike = record {
+  pub alike_on : (l : Listing) (c d : Chained S) (cs ds : List (Chained S)) → map store.holds d.stores ≡ map store.holds c.stores → map store.members d.stores ≡ map store.members c.stores → AllZip (FetchesAhead store l) cs ds → HoldAlike store c cs → HoldAlike store d ds
+  alike_on l c d cs ds held members ahead alike = record {
     held = all_through (λ a. map store.holds a.stores ≡ map store.holds c.stores) (λ b. map store.holds b.stores ≡ map store.holds d.stores) (FetchesAhead store l) (λ a b h is. h.stores.held ∙ is ∙ sym held) cs ds ahead alike.held;
+    members = all_through (λ a. map store.members a.stores ≡ map store.members c.stores) (λ b. map store.members b.stores ≡ map store.members d.stores) (FetchesAhead store l) (λ a b h is. h.stores.members ∙ is ∙ sym members) cs ds ahead alike.members;
   }
 
   -- ---- by chains that were made anew, of the same stores
@@ -80,6 +81,8 @@ module _ {S : Type 0} (store : StoreWords S) where
   remade_alike c d cs ds first same alike = record {
     held = remade_all (λ xs. map store.holds xs ≡ map store.holds d.stores) cs ds same
         (subst (λ ys. All (λ x. map store.holds x.stores ≡ map store.holds ys) cs) (sym first) alike.held);
+    members = remade_all (λ xs. map store.members xs ≡ map store.members d.stores) cs ds same
+        (subst (λ ys. All (λ x. map store.members x.stores ≡ map store.members ys) cs) (sym first) alike.members);
   }
 
   remade_asks : (ls : List Listing) (c d e : Chained S) → d.stores ≡ c.stores → AsksListings store ls d e → AsksListings store ls c e

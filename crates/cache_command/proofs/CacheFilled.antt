@@ -10,6 +10,7 @@ use Rattle.cache_store.proofs.Stocked.{stocks_weaker}
 use Rattle.cache_store.specs.Shelves.{Shelf, Stocks, held_on}
 use Rattle.caibx_codec.specs.Asks.{IsListedGet}
 use Rattle.caibx_codec.specs.Listing.{Listing, id_of, kind_of, size_of}
+use Rattle.chunk_store.proofs.Members.{told_alone}
 use Rattle.chunk_store.specs.Folders.{chunks}
 use Rattle.chunk_store.specs.declared.id.ChunkId.{ChunkId}
 use Rattle.chunk_store.specs.declared.store.Store.{Ghosts as StoreWords}
@@ -94,7 +95,7 @@ quiet_each counted [] (d ∷ ds) h = h
 quiet_each counted (c ∷ cs) [] h = h
 quiet_each counted (c ∷ cs) (d ∷ ds) h = (h.0, quiet_each counted cs ds h.1)
 
-module _ {S : Type 0} (store : StoreWords S) (lies : (s : S) → IfSome (store.folder s) (λ m. store.holds s ≡ Some (chunks m))) (l : Listing) (s0 s1 : Shelf) (c0 c1 : Chained S) (f0 f1 : List (Chained S)) (worker : ℕ)
+module _ {S : Type 0} (store : StoreWords S) (lies : (s : S) → IfSome (store.folder s) (λ m. store.holds s ≡ Some (chunks m))) (alone : (s : S) → IfSome (store.holds s) (λ m. store.members s ≡ Some (m ∷ []))) (l : Listing) (s0 s1 : Shelf) (c0 c1 : Chained S) (f0 f1 : List (Chained S)) (worker : ℕ)
     (kept : KeepsStores store (IsListedGet l) c0.stores c1.stores) (many : length f0 ≡ length f1) (alike : All (λ x. map store.holds x.stores ≡ map store.holds c0.stores) f0) where
   abbrev Calls : Evidence
   Calls = of_calls store (each_stores (c0 ∷ f0)) (each_stores (c1 ∷ f1)) worker s0.faults s1.faults
@@ -113,12 +114,12 @@ module _ {S : Type 0} (store : StoreWords S) (lies : (s : S) → IfSome (store.f
   maps_of : (fs : List (Map (List ℕ))) → map store.folder c0.stores ≡ map Some fs → map store.holds c0.stores ≡ map Some (map chunks fs)
   maps_of fs told = all_hold c0.stores fs told
 
-  held_listed : (q b : List ℕ) → MayFillCache store.holds l c0.stores q b → IsHeldListed Calls l q b
-  held_listed q b (listed, some) = (listed, λ fs told. some (map chunks fs) (maps_of fs told))
+  held_listed : (q b : List ℕ) → MayFillCache store.members l c0.stores q b → IsHeldListed Calls l q b
+  held_listed q b (listed, some) = (listed, λ fs told. some (map chunks fs) (told_alone store.holds store.members alone c0.stores (map chunks fs) (maps_of fs told)))
 
-  added : Stocks (MayFillCache store.holds l c0.stores) s0 s1 → AddsListed Calls l s0.files s1.files
+  added : Stocks (MayFillCache store.members l c0.stores) s0 s1 → AddsListed Calls l s0.files s1.files
   added h =
-      let weaker = stocks_weaker (MayFillCache store.holds l c0.stores) (IsHeldListed Calls l) held_listed s0 s1 h in
+      let weaker = stocks_weaker (MayFillCache store.members l c0.stores) (IsHeldListed Calls l) held_listed s0 s1 h in
       record { tells = weaker.told; chunks_are = weaker.chunks; strangers = weaker.strangers }
 
   exact : (r : Result Unit FillFault) → ((m : Map (List ℕ)) (maps : List (Map (List ℕ))) → FillUnfailed store.holds store.faults l m maps s0 s1 c0.stores c1.stores → AreQuiet store.faults f0 f1 → FillsBy l m maps r) → FillExactly Calls l s0.files r
@@ -206,7 +207,7 @@ module _ {S : Type 0} (store : StoreWords S) (lies : (s : S) → IfSome (store.f
   ended (Err fault) (inl (first, inr h)) = inr (stops first fault h)
   ended (Err fault) (inr h) = inr (stops_ahead fault h)
 
-  pub index_filled : (r : Result Unit FillFault) → FillEnds store l s0 s1 c0 c1 f0 f1 worker r → Stocks (MayFillCache store.holds l c0.stores) s0 s1 → HoldsTo l (filled_to l r) s1
+  pub index_filled : (r : Result Unit FillFault) → FillEnds store l s0 s1 c0 c1 f0 f1 worker r → Stocks (MayFillCache store.members l c0.stores) s0 s1 → HoldsTo l (filled_to l r) s1
       → ((m : Map (List ℕ)) (maps : List (Map (List ℕ))) → FillUnfailed store.holds store.faults l m maps s0 s1 c0.stores c1.stores → AreQuiet store.faults f0 f1 → FillsBy l m maps r) → IndexFilled Calls l s0.files s1.files r
   index_filled r ends stocks all exactly = record { added = added stocks; holds = all; exactly = exact r exactly; order = ended r ends }
 

@@ -29,6 +29,7 @@ module _ {S : Type 0} (store : StoreWords S) where
   -- the further workers' stores hold what the first worker's hold
   pub record HoldAlike (first : Chained S) (further : List (Chained S)) : Type 0 where
     pub held : All (λ c. map store.holds c.stores ≡ map store.holds first.stores) further
+    pub members : All (λ c. map store.members c.stores ≡ map store.members first.stores) further
 
   -- each store of a chain was asked for the chunk of an id at most once for each entry that lists it, and never whether
   -- it has one, and nothing else was sent to it but fronts of such requests

@@ -26,7 +26,7 @@ use Rattle.store_chain.specs.Queries.{FillsQuery, query_of}
 use Rattle.store_chain.specs.declared.refused.Refused.{Refused}
 use Rattle.store_chain.specs.declared.refused.Refused.TheVariants as refused
 use Rattle.store_chain.specs.declared.query.Query.{Query}
-use Rattle.cache_fill.proofs.Holding.{any_at, given_by, of_wanted, wanted_of}
+use Rattle.cache_fill.proofs.Holding.{TellAlone, any_at, given_by, of_wanted, told_members, wanted_of}
 use Rattle.cache_fill.specs.Filling.{EntryFails, GivesEntry, IsGivenBy, LosesEntry, RefusesEntry, entry_want, fill_fault_of}
 use Rattle.cache_fill.specs.declared.fill.FillFault.TheVariants as faults
 
@@ -66,7 +66,7 @@ module _ {F S : Type 0} (files : F → Option (Map (List ℕ))) (place_of : F �
   s1 = shelf_of files place_of faults_of new.shelf
 
   abbrev pub Ends : Query → Result Got Refused → Type 0
-  Ends w r = FromShelf files place_of faults_of w old new r out ⊎ FromStores files place_of faults_of store.holds store.said store.faults store.may_lack_memory store.asked store.queried w old new r out
+  Ends w r = FromShelf files place_of faults_of w old new r out ⊎ FromStores files place_of faults_of store.holds store.members store.said store.faults store.may_lack_memory store.asked store.queried w old new r out
 
   unfound_of : (o : Option (Map (List ℕ))) → IfSome o (λ m. Gives (entry_want l i id) m → Rose s0.faults s1.faults) → IfSome o (λ m. GivesEntry l i m → Rose s0.faults s1.faults)
   unfound_of None h = tt
@@ -93,9 +93,9 @@ module _ {F S : Type 0} (files : F → Option (Map (List ℕ))) (place_of : F �
         inr (any_at (GivesEntry l i) (λ n. Gives (entry_want l i id) n → IsTrue store.may_lack_memory) (λ n. n id.0 ≡ Some b) (λ n. Unit {0}) entry_at first.0 maps first.1)
 
     -- a store did, but it wasn't put
-    lost : FromStores files place_of faults_of store.holds store.said store.faults store.may_lack_memory store.asked store.queried (entry_want l i id) old new (Ok got) out
+    lost : TellAlone store → FromStores files place_of faults_of store.holds store.members store.said store.faults store.may_lack_memory store.asked store.queried (entry_want l i id) old new (Ok got) out
         → LosesEntry store l i s0 s1 old.chain new.chain
-    lost h = record {
+    lost alone h = record {
       id = id;
       id_is = is_id;
       unfound = unfound_of (held_on s0) h.unfound;
@@ -104,29 +104,29 @@ module _ {F S : Type 0} (files : F → Option (Map (List ℕ))) (place_of : F �
       asked = asked_once h.asks;
       given = h.found;
       gives = λ maps told.
-          let Held : List ℕ → Type 0 = λ q. SomeHolds store.holds old.chain.stores q b in
-          given_by store.holds l old.chain.stores maps told (id_of l i) b (size_of l i) (subst Held is_id h.had) (of_wanted l i id is_id b given.wanted);
+          let Held : List ℕ → Type 0 = λ q. SomeHolds store.members old.chain.stores q b in
+          given_by store.members l old.chain.stores maps (told_members store alone old.chain.stores maps told) (id_of l i) b (size_of l i) (subst Held is_id h.had) (of_wanted l i id is_id b given.wanted);
     }
 
-    module _ (still : (x : Option (List ℕ)) (m : Map (List ℕ)) → chunks (at_name m (temporary_of (path_of id.0)) x) ≡ chunks m) where
+    module _ (alone : TellAlone store) (still : (x : Option (List ℕ)) (m : Map (List ℕ)) → chunks (at_name m (temporary_of (path_of id.0)) x) ≡ chunks m) where
       pub call_failed : got.kept ≡ kept.Failed → Ends (entry_want l i id) (Ok got) → EntryFails store l i s0 s1 old.chain new.chain faults.CacheFault × (held_on s1 ≡ held_on s0)
       call_failed is (inl h) = absurd (yes_failed (sym h.answer.1 ∙ is))
       call_failed is (inr h) =
           let Added : Kept → Type 0 = λ k. AddedTo id.0 b k s0 s1 in
           let added = subst Added is h.added.1 in
-          ((inl (lost h), added.1), temporary_same id.0 s0.files s1.files still added.0)
+          ((inl (lost alone h), added.1), temporary_same id.0 s0.files s1.files still added.0)
 
       pub call_lacked : got.kept ≡ kept.Memory → Ends (entry_want l i id) (Ok got) → EntryFails store l i s0 s1 old.chain new.chain faults.Memory × (held_on s1 ≡ held_on s0)
       call_lacked is (inl h) = absurd (yes_memory (sym h.answer.1 ∙ is))
       call_lacked is (inr h) =
           let Added : Kept → Type 0 = λ k. AddedTo id.0 b k s0 s1 in
-          (inr (inr (lost h)), temporary_same id.0 s0.files s1.files still (subst Added is h.added.1))
+          (inr (inr (lost alone h)), temporary_same id.0 s0.files s1.files still (subst Added is h.added.1))
 
   -- the stores refuse it
   abbrev Told : Refused → Type 0
   Told r = EntryFails store l i s0 s1 old.chain new.chain (fill_fault_of i id r)
 
-  refused_at : (r : Refused) → FromStores files place_of faults_of store.holds store.said store.faults store.may_lack_memory store.asked store.queried (entry_want l i id) old new (Err r) out
+  refused_at : (r : Refused) → FromStores files place_of faults_of store.holds store.members store.said store.faults store.may_lack_memory store.asked store.queried (entry_want l i id) old new (Err r) out
       → RefusesEntry store l i id r s0 s1 old.chain new.chain
   refused_at r h = record {
     id_is = is_id;

@@ -14,6 +14,7 @@ use Rattle.cache_fill.specs.declared.want_reader.WantReader.{WantReader}
 use Rattle.caibx_codec.specs.Asks.{IsListedGet}
 use Rattle.caibx_codec.specs.Listing.{Listing, count_of, id_of, kind_of, size_of}
 use Rattle.chunk_store.specs.Asks.{Get}
+use Rattle.chunk_store.specs.Members.{told_together}
 use Rattle.chunk_store.specs.Said.{AskedOnce}
 use Rattle.chunk_store.specs.declared.id.ChunkId.{ChunkId}
 use Rattle.chunk_store.specs.declared.id.DigestKind.{DigestKind}
@@ -121,19 +122,19 @@ refused_last store l i id is_id kind size room same sized owner k next c d e r f
 
 -- ---- what stands in their rooms
 
-module _ {S : Type 0} (holds : S → Option (Map (List ℕ))) (l : Listing) where
+module _ {S : Type 0} (members : S → Option (List (Map (List ℕ)))) (l : Listing) where
   -- what some store holds is held by stores that hold the same
-  pub rooms_same : (c d : List S) → map holds d ≡ map holds c → (a : Ahead) → IsAhead l (SomeHoldsEntry holds l c) a → IsAhead l (SomeHoldsEntry holds l d) a
+  pub rooms_same : (c d : List S) → map members d ≡ map members c → (a : Ahead) → IsAhead l (SomeHoldsEntry members l c) a → IsAhead l (SomeHoldsEntry members l d) a
   rooms_same c d same a is = record {
     room = is.room;
     slices = λ i b has.
         let slice = is.slices i b has in
-        record { size = slice.size; named = slice.named; is = λ maps told. slice.is maps (sym same ∙ told) };
+        record { size = slice.size; named = slice.named; is = λ maps told. slice.is maps (ap told_together (sym same) ∙ told) };
   }
 
 -- and so is what stands there by one listing of two equal ones
-pub rooms_back : {S : Type 0} (holds : S → Option (Map (List ℕ))) (l k : Listing) (c d : List S) → k ≡ l → map holds d ≡ map holds c → (a : Ahead) → IsAhead k (SomeHoldsEntry holds k d) a → IsAhead l (SomeHoldsEntry holds l c) a
-rooms_back holds l k c d same held a is = rooms_same holds l d c (sym held) a (subst (λ (k : Listing). IsAhead k (SomeHoldsEntry holds k d) a) same is)
+pub rooms_back : {S : Type 0} (members : S → Option (List (Map (List ℕ)))) (l k : Listing) (c d : List S) → k ≡ l → map members d ≡ map members c → (a : Ahead) → IsAhead k (SomeHoldsEntry members k d) a → IsAhead l (SomeHoldsEntry members l c) a
+rooms_back members l k c d same held a is = rooms_same members l d c (sym held) a (subst (λ (k : Listing). IsAhead k (SomeHoldsEntry members k d) a) same is)
 
 -- ---- readers over the whole way
 

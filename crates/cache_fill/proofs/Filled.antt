@@ -26,7 +26,7 @@ use Rattle.store_chain.specs.declared.refused.Refused.{Refused}
 use Rattle.store_chain.specs.declared.refused.Refused.TheVariants as refused
 use Rattle.store_chain.specs.declared.query.Query.{Query}
 use Rattle.verify_tool.proofs.Asked.{each_then, each_weaker}
-use Rattle.cache_fill.proofs.Holding.{damaged_never, each_within, gave_entry, holds_more, holds_none, holds_still, missing_never, not_at_first, quiet_within, rose_never, takes_earlier, told_still}
+use Rattle.cache_fill.proofs.Holding.{TellAlone, damaged_never, each_within, gave_entry, holds_more, holds_none, holds_still, missing_never, not_at_first, quiet_within, rose_never, takes_earlier, told_members, told_still}
 use Rattle.cache_fill.specs.Filling.{AreQuiet, AsksEntries, AsksEntry, EntryFails, EntryUnfound, FetchesAhead, FillEnds, FillStops, FillUnfailed, FillsBy, FillsFirst, GivesEntry, HoldsTo, IsAside, IsFirstLost, IsGetBefore, IsGivenBy, MayFillCache, RefusedAhead, RefusesAhead, RefusesEntry, SparesStores, TurnAsks, entry_want, fill_fault_of, filled_to}
 use Rattle.cache_fill.specs.FillProgress.{FillAnswers, Filled, LeavesEntry, Spared}
 use Rattle.cache_fill.specs.declared.fill.FillFault.{FillFault}
@@ -106,7 +106,7 @@ module _ {S : Type 0} (store : StoreWords S) (l : Listing) where
   -- entry i was seen to
   pub record Turns (i : ℕ) (s t : Shelf) (c d : Chained S) : Type 0 where
     pub asks : TurnAsks store l i s t c d
-    pub stocks : Stocks (λ q b. (q ≡ id_of l i) × MayFillCache store.holds l c.stores q b) s t
+    pub stocks : Stocks (λ q b. (q ≡ id_of l i) × MayFillCache store.members l c.stores q b) s t
     pub stores : KeepsStores store (λ a. a ≡ Get (id_of l i)) c.stores d.stores
 
   spared_none : (s : Shelf) (c : Chained S) → Spared store l s s c c
@@ -115,8 +115,8 @@ module _ {S : Type 0} (store : StoreWords S) (l : Listing) where
     go None = tt
     go (Some m) = λ all quiet. (refl, refl)
 
-  pub filled_stocks : (i : ℕ) (s0 s : Shelf) (c0 c : Chained S) → Filled store l i s0 s c0 c → Stocks (MayFillCache store.holds l c0.stores) s0 s
-  filled_stocks i s0 s c0 c h = stocks_weaker (λ q b. IsListedId l i q × MayFillCache store.holds l c0.stores q b) (MayFillCache store.holds l c0.stores) (λ q b h. h.1) s0 s h.stocks
+  pub filled_stocks : (i : ℕ) (s0 s : Shelf) (c0 c : Chained S) → Filled store l i s0 s c0 c → Stocks (MayFillCache store.members l c0.stores) s0 s
+  filled_stocks i s0 s c0 c h = stocks_weaker (λ q b. IsListedId l i q × MayFillCache store.members l c0.stores q b) (MayFillCache store.members l c0.stores) (λ q b h. h.1) s0 s h.stocks
 
   pub filled_none : (s : Shelf) (c : Chained S) → Filled store l 0 s s c c
   filled_none s c = record {
@@ -124,7 +124,7 @@ module _ {S : Type 0} (store : StoreWords S) (l : Listing) where
     given = λ m maps nothing j less. absurd (omega arith);
     asks = none_asked store.asked store.queried l c;
     spared = spared_none s c;
-    stocks = stocks_same (λ q b. IsListedId l 0 q × MayFillCache store.holds l c.stores q b) s;
+    stocks = stocks_same (λ q b. IsListedId l 0 q × MayFillCache store.members l c.stores q b) s;
     stores = kept_still store (IsGetBefore l 0) c.stores;
   }
 
@@ -136,22 +136,22 @@ module _ {S : Type 0} (store : StoreWords S) (l : Listing) where
       let rose : GivesEntry l i m → Rose s.faults t.faults = subst P is (subst Q same unfound) in
       rose_never s.faults t.faults quiet (rose gives)
 
-  module _ (i : ℕ) (inside : i < count_of l) (s0 s t : Shelf) (c0 c d : Chained S) (before : Filled store l i s0 s c0 c) (turn : Turns i s t c d) where
-    stocks_now : Stocks (MayFillCache store.holds l c0.stores) s t
-    stocks_now = stocks_weaker (λ q b. (q ≡ id_of l i) × MayFillCache store.holds l c.stores q b) (MayFillCache store.holds l c0.stores) (λ q b h. takes_earlier store.holds l c0.stores c.stores before.stores.held q b h.1) s t turn.stocks
+  module _ (alone : TellAlone store) (i : ℕ) (inside : i < count_of l) (s0 s t : Shelf) (c0 c d : Chained S) (before : Filled store l i s0 s c0 c) (turn : Turns i s t c d) where
+    stocks_now : Stocks (MayFillCache store.members l c0.stores) s t
+    stocks_now = stocks_weaker (λ q b. (q ≡ id_of l i) × MayFillCache store.members l c.stores q b) (MayFillCache store.members l c0.stores) (λ q b h. takes_earlier store.members l c0.stores c.stores before.stores.members q b h.1) s t turn.stocks
 
-    stocks_before : Stocks (MayFillCache store.holds l c0.stores) s0 s
-    stocks_before = stocks_weaker (λ q b. IsListedId l i q × MayFillCache store.holds l c0.stores q b) (MayFillCache store.holds l c0.stores) (λ q b h. h.1) s0 s before.stocks
+    stocks_before : Stocks (MayFillCache store.members l c0.stores) s0 s
+    stocks_before = stocks_weaker (λ q b. IsListedId l i q × MayFillCache store.members l c0.stores q b) (MayFillCache store.members l c0.stores) (λ q b h. h.1) s0 s before.stocks
 
-    pub turn_stocks : Stocks (MayFillCache store.holds l c0.stores) s0 t
-    turn_stocks = stocks_on (MayFillCache store.holds l c0.stores) s0 s t stocks_before stocks_now
+    pub turn_stocks : Stocks (MayFillCache store.members l c0.stores) s0 t
+    turn_stocks = stocks_on (MayFillCache store.members l c0.stores) s0 s t stocks_before stocks_now
 
-    turn_order : Stocks (λ q b. IsListedId l (i + 1) q × MayFillCache store.holds l c0.stores q b) s0 t
-    turn_order = stocks_on (λ q b. IsListedId l (i + 1) q × MayFillCache store.holds l c0.stores q b) s0 s t
-        (stocks_weaker (λ q b. IsListedId l i q × MayFillCache store.holds l c0.stores q b) (λ q b. IsListedId l (i + 1) q × MayFillCache store.holds l c0.stores q b)
+    turn_order : Stocks (λ q b. IsListedId l (i + 1) q × MayFillCache store.members l c0.stores q b) s0 t
+    turn_order = stocks_on (λ q b. IsListedId l (i + 1) q × MayFillCache store.members l c0.stores q b) s0 s t
+        (stocks_weaker (λ q b. IsListedId l i q × MayFillCache store.members l c0.stores q b) (λ q b. IsListedId l (i + 1) q × MayFillCache store.members l c0.stores q b)
         (λ q b h. (record { entry = h.0.entry; below = omega (arith, h.0.below); id = h.0.id }, h.1)) s0 s before.stocks)
-        (stocks_weaker (λ q b. (q ≡ id_of l i) × MayFillCache store.holds l c.stores q b) (λ q b. IsListedId l (i + 1) q × MayFillCache store.holds l c0.stores q b)
-        (λ q b h. (record { entry = i; below = omega arith; id = h.0 }, takes_earlier store.holds l c0.stores c.stores before.stores.held q b h.1)) s t turn.stocks)
+        (stocks_weaker (λ q b. (q ≡ id_of l i) × MayFillCache store.members l c.stores q b) (λ q b. IsListedId l (i + 1) q × MayFillCache store.members l c0.stores q b)
+        (λ q b h. (record { entry = i; below = omega arith; id = h.0 }, takes_earlier store.members l c0.stores c.stores before.stores.members q b h.1)) s t turn.stocks)
 
     turn_gets : KeepsStores store (IsGetBefore l (i + 1)) c0.stores d.stores
     turn_gets = kept_on store (IsGetBefore l (i + 1)) c0.stores c.stores d.stores
@@ -220,7 +220,7 @@ module _ {S : Type 0} (store : StoreWords S) (l : Listing) where
       given_here gives =
           let now = told_still s0 s m nothing.held before.stocks.told in
           let P : Option (Map (List ℕ)) → Type 0 = λ o. IfSome o (λ n. GivesEntry l i n → IsGivenBy l m maps i) in
-          let gave : GivesEntry l i now.0 → IsGivenBy l m maps i = subst P now.1 (gave_entry store.holds l c0.stores m maps nothing.told i s0 s nothing.held stocks_before) in
+          let gave : GivesEntry l i now.0 → IsGivenBy l m maps i = subst P now.1 (gave_entry store.members l c0.stores m maps (told_members store alone c0.stores maps nothing.told) i s0 s nothing.held stocks_before) in
           elim (gives now.0 now.1 (before.stores.held ∙ nothing.told) stores_quiet) [
             | inl there ↦ gave there
             | inr store ↦ inr store
@@ -230,7 +230,7 @@ module _ {S : Type 0} (store : StoreWords S) (l : Listing) where
         → ((m : Map (List ℕ)) (maps : List (Map (List ℕ))) → held_on s ≡ Some m → map store.holds c.stores ≡ map Some maps → EachQuiet (map store.faults c.stores) (map store.faults d.stores) → IsGivenBy l m maps i)
         → Filled store l (i + 1) s0 t c0 d
     filled_more there gives = record {
-      holds_all = holds_more l i t there (holds_still store.holds l c0.stores i s t stocks_now before.holds_all);
+      holds_all = holds_more l i t there (holds_still store.members l c0.stores i s t stocks_now before.holds_all);
       given = λ m maps nothing. below_more _ _ (given_before m maps nothing) (given_here m maps nothing (λ n held told quiet. gives n maps held told quiet));
       asks = turn_asks;
       spared = turn_spared;
@@ -244,11 +244,11 @@ module _ {S : Type 0} (store : StoreWords S) (l : Listing) where
     filled_before = record { holds = before.holds_all; stocks = before.stocks; asks = before.asks; stores = before.stores }
 
     held_before : HoldsTo l i t
-    held_before = holds_still store.holds l c0.stores i s t stocks_now before.holds_all
+    held_before = holds_still store.members l c0.stores i s t stocks_now before.holds_all
 
     kept_stocks : Stocks (λ q b. ⊥) s t → Stocks (λ q b. IsListedId l i q) s0 t
     kept_stocks kept = stocks_on (λ q b. IsListedId l i q) s0 s t
-        (stocks_weaker (λ q b. IsListedId l i q × MayFillCache store.holds l c0.stores q b) (λ q b. IsListedId l i q) (λ q b h. h.0) s0 s before.stocks)
+        (stocks_weaker (λ q b. IsListedId l i q × MayFillCache store.members l c0.stores q b) (λ q b. IsListedId l i q) (λ q b h. h.0) s0 s before.stocks)
         (stocks_weaker (λ q b. ⊥) (λ q b. IsListedId l i q) (λ q b none. absurd none) s t kept)
 
     pub turn_stops : (fault : FillFault) → EntryFails store l i s t c d fault → Stocks (λ q b. ⊥) s t → FillStops store l fault s0 t c0 d
@@ -279,7 +279,7 @@ module _ {S : Type 0} (store : StoreWords S) (l : Listing) where
         → (LacksAll (entry_want l i id) maps r → SomeGives (kind_of l) (id_of l i) (size_of l i) maps → ⊥)
         → IsGivenBy l m maps i → ⊥
     lost_here m maps nothing id r h never (inl first) =
-        not_at_first store.holds l c0.stores m maps nothing.told nothing.sizes i s0 s t inside nothing.held stocks_before h.unfound
+        not_at_first store.members l c0.stores m maps (told_members store alone c0.stores maps nothing.told) nothing.sizes i s0 s t inside nothing.held stocks_before h.unfound
         (shelf_quiet m maps nothing) first
     lost_here m maps nothing id r h never (inr store) = never (h.lacks maps (before.stores.held ∙ nothing.told)) store
 
@@ -324,7 +324,7 @@ module _ {S : Type 0} (store : StoreWords S) (l : Listing) where
           → (LacksAll (entry_want l i id) maps r → SomeGives (kind_of l) (id_of l i) (size_of l i) maps → ⊥)
           → IsGivenBy l m maps i → ⊥
       lost_ahead m maps nothing id r h never (inl first) =
-          not_at_first store.holds l c0.stores m maps nothing.told nothing.sizes i s0 s t inside nothing.held stocks_before unfound
+          not_at_first store.members l c0.stores m maps (told_members store alone c0.stores maps nothing.told) nothing.sizes i s0 s t inside nothing.held stocks_before unfound
           (shelf_quiet m maps nothing) first
       lost_ahead m maps nothing id r h never (inr some) = never (h.lacks maps (alike n c0 inside_0 ∙ nothing.told)) some
 
@@ -371,19 +371,19 @@ module _ {S : Type 0} (store : StoreWords S) (l : Listing) where
           }
 
   -- entry i was found on the shelf, or what was read ahead was added to it; no store was asked
-  pub filled_ahead : (i : ℕ) → i < count_of l → (s0 s t : Shelf) (c0 c : Chained S) → Filled store l i s0 s c0 c → IsAside l i s t
-      → Stocks (λ q b. (q ≡ id_of l i) × MayFillCache store.holds l c.stores q b) s t → IfSome (held_on t) (GivesEntry l i)
+  pub filled_ahead : TellAlone store → (i : ℕ) → i < count_of l → (s0 s t : Shelf) (c0 c : Chained S) → Filled store l i s0 s c0 c → IsAside l i s t
+      → Stocks (λ q b. (q ≡ id_of l i) × MayFillCache store.members l c.stores q b) s t → IfSome (held_on t) (GivesEntry l i)
       → ((m : Map (List ℕ)) (maps : List (Map (List ℕ))) → held_on s ≡ Some m → map store.holds c.stores ≡ map Some maps → IsGivenBy l m maps i)
       → Filled store l (i + 1) s0 t c0 c
-  filled_ahead i inside s0 s t c0 c before aside stocks gives given =
+  filled_ahead alone i inside s0 s t c0 c before aside stocks gives given =
       let turn : Turns i s t c c = record { asks = inl (refl, aside); stocks = stocks; stores = kept_still store (λ a. a ≡ Get (id_of l i)) c.stores } in
-      filled_more i inside s0 s t c0 c c before turn gives (λ m maps held told quiet. given m maps held told)
+      filled_more alone i inside s0 s t c0 c c before turn gives (λ m maps held told quiet. given m maps held told)
 
   -- nothing was added to the shelf, which was looked at, or failed
   pub filled_still : (i : ℕ) (s0 s t : Shelf) (c0 c : Chained S) → Filled store l i s0 s c0 c → (t.files ≡ s.files) ⊎ ((i < count_of l) × EntryUnfound l i s t) → Stocks (λ q b. ⊥) s t
       → Filled store l i s0 t c0 c
   filled_still i s0 s t c0 c before aside stocks = record {
-    holds_all = holds_still store.holds l c0.stores i s t (stocks_weaker (λ q b. ⊥) (MayFillCache store.holds l c0.stores) (λ q b none. absurd none) s t stocks) before.holds_all;
+    holds_all = holds_still store.members l c0.stores i s t (stocks_weaker (λ q b. ⊥) (MayFillCache store.members l c0.stores) (λ q b none. absurd none) s t stocks) before.holds_all;
     given = λ m maps nothing. before.given m maps (record {
       held = nothing.held;
       told = nothing.told;
@@ -393,8 +393,8 @@ module _ {S : Type 0} (store : StoreWords S) (l : Listing) where
     });
     asks = before.asks;
     spared = go (held_on s0) refl before.spared;
-    stocks = stocks_on (λ q b. IsListedId l i q × MayFillCache store.holds l c0.stores q b) s0 s t before.stocks
-        (stocks_weaker (λ q b. ⊥) (λ q b. IsListedId l i q × MayFillCache store.holds l c0.stores q b) (λ q b none. absurd none) s t stocks);
+    stocks = stocks_on (λ q b. IsListedId l i q × MayFillCache store.members l c0.stores q b) s0 s t before.stocks
+        (stocks_weaker (λ q b. ⊥) (λ q b. IsListedId l i q × MayFillCache store.members l c0.stores q b) (λ q b none. absurd none) s t stocks);
     stores = before.stores;
   } where
     go : (o : Option (Map (List ℕ))) → held_on s0 ≡ o → IfSome o (λ m. ((j : ℕ) → j < count_of l → GivesEntry l j m) → Quiet s0.faults s.faults → (c ≡ c0) × (s.files ≡ s0.files))
@@ -440,20 +440,20 @@ module _ {S : Type 0} (store : StoreWords S) (l : Listing) where
     wider (Err fault) (inr ahead) = absurd (omega (arith, ahead.inside))
 
   -- an entry that a further worker was to read, and hasn't
-  module _ (i : ℕ) (s0 t : Shelf) (c0 c : Chained S) (left : LeavesEntry store l i s0 t c0 c) where
+  module _ (alone : TellAlone store) (i : ℕ) (s0 t : Shelf) (c0 c : Chained S) (left : LeavesEntry store l i s0 t c0 c) where
     left_turn : Turns i left.shelf t c c
     left_turn = record {
       asks = inl (refl, inl (left.stops).0);
-      stocks = stocks_weaker (λ q b. ⊥) (λ q b. (q ≡ id_of l i) × MayFillCache store.holds l c.stores q b) (λ q b none. absurd none) left.shelf t left.kept;
+      stocks = stocks_weaker (λ q b. ⊥) (λ q b. (q ≡ id_of l i) × MayFillCache store.members l c.stores q b) (λ q b none. absurd none) left.shelf t left.kept;
       stores = kept_still store (λ a. a ≡ Get (id_of l i)) c.stores;
     }
 
     -- it had no memory
     pub answers_unread : FillAnswers store l s0 t c0 c [] [] 0 (Err faults.Memory)
-    answers_unread = answers_stopped i left.listed s0 left.shelf t c0 c c left.filled left_turn faults.Memory (inl refl) left.kept
+    answers_unread = answers_stopped alone i left.listed s0 left.shelf t c0 c c left.filled left_turn faults.Memory (inl refl) left.kept
 
     -- or its stores refused it
     pub answers_lost : (f0 f1 : List (Chained S)) → All (λ x. map store.holds x.stores ≡ map store.holds c0.stores) f0 → (n : ℕ) → n < length f0 → n < length f1 → (fault : FillFault)
         → ((x : Chained S) → RefusedAhead store l i fault (slice_index_or f0 n x) (slice_index_or f1 n x)) → FillAnswers store l s0 t c0 c f0 f1 (n + 1) (Err fault)
     answers_lost f0 f1 alike n inside_0 inside_1 fault told =
-        answers_ahead i left.listed s0 left.shelf t c0 c c left.filled left_turn (left.stops).1 (left.stops).0 left.kept refl f0 f1 alike n inside_0 inside_1 fault told
+        answers_ahead alone i left.listed s0 left.shelf t c0 c c left.filled left_turn (left.stops).1 (left.stops).0 left.kept refl f0 f1 alike n inside_0 inside_1 fault told

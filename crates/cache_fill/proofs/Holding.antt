@@ -8,10 +8,13 @@ use Rattle.cache_store.specs.Giving.{GiveOneSize, SomeGives}
 use Rattle.cache_store.specs.Shelves.{Shelf, Stocks, held_on}
 use Rattle.caibx_codec.specs.Listing.{Listing, count_of, id_of, kind_of, size_of}
 use Rattle.chunk_store.specs.Folders.{chunks}
+use Rattle.chunk_store.proofs.Members.{told_alone}
 use Rattle.chunk_store.specs.Giving.{GivesChunk, IsChunk}
+use Rattle.chunk_store.specs.Members.{maps_of, told_together}
 use Rattle.chunk_store.specs.declared.id.ChunkId.{ChunkId}
 use Rattle.chunk_store.specs.declared.shows.Shows.{Shows}
 use Rattle.chunk_store.specs.declared.shows.Shows.TheVariants as shows
+use Rattle.chunk_store.specs.declared.store.Store.{Ghosts as StoreWords}
 use Rattle.dsy_base.specs.Counts.{Quiet, Rose}
 use Rattle.dsy_base.specs.Maps.{Map}
 use Rattle.store_chain.specs.Faults.{EachQuiet, NoneFalls}
@@ -54,21 +57,21 @@ told_still s t m held same = go s.files t.files held same where
   go (Some a) None held same = absurd (true_false (sym same))
   go (Some a) (Some b) held same = (chunks b, refl)
 
-module _ {S : Type 0} (holds : S → Option (Map (List ℕ))) (l : Listing) where
-  holds_one : (stores : List S) (i : ℕ) (x y : Option (List ℕ)) → (y ≡ x) ⊎ ((b : List ℕ) × (y ≡ Some b) × MayFillCache holds l stores (id_of l i) b) → HoldsEntry l i x → HoldsEntry l i y
+module _ {S : Type 0} (members : S → Option (List (Map (List ℕ)))) (l : Listing) where
+  holds_one : (stores : List S) (i : ℕ) (x y : Option (List ℕ)) → (y ≡ x) ⊎ ((b : List ℕ) × (y ≡ Some b) × MayFillCache members l stores (id_of l i) b) → HoldsEntry l i x → HoldsEntry l i y
   holds_one stores i x y (inl same) (b, held, named, sized) = (b, same ∙ held, named, sized)
   holds_one stores i x y (inr (b, held, ((n, (j, inside, id, size), is), some))) before = (b, held, is.named, λ one. is.sized ∙ sym size ∙ one j inside id)
 
   -- entries that are held are held still
-  pub holds_still : (stores : List S) (k : ℕ) (s t : Shelf) → Stocks (MayFillCache holds l stores) s t → HoldsTo l k s → HoldsTo l k t
+  pub holds_still : (stores : List S) (k : ℕ) (s t : Shelf) → Stocks (MayFillCache members l stores) s t → HoldsTo l k s → HoldsTo l k t
   holds_still stores k s t h =
       on_told (λ m. (i : ℕ) → i < k → HoldsEntry l i (m (id_of l i))) (λ m. (i : ℕ) → i < k → HoldsEntry l i (m (id_of l i)))
-      (λ m n. (q : List ℕ) → (n q ≡ m q) ⊎ ((b : List ℕ) × (n q ≡ Some b) × MayFillCache holds l stores q b))
+      (λ m n. (q : List ℕ) → (n q ≡ m q) ⊎ ((b : List ℕ) × (n q ≡ Some b) × MayFillCache members l stores q b))
       (λ m n r p i less. holds_one stores i (chunks m (id_of l i)) (chunks n (id_of l i)) (r (id_of l i)) (p i less))
       s.files t.files h.told h.chunks
 
-  pub takes_earlier : (c d : List S) → map holds d ≡ map holds c → (q b : List ℕ) → MayFillCache holds l d q b → MayFillCache holds l c q b
-  takes_earlier c d same q b (listed, some) = (listed, λ maps told. some maps (same ∙ told))
+  pub takes_earlier : (c d : List S) → map members d ≡ map members c → (q b : List ℕ) → MayFillCache members l d q b → MayFillCache members l c q b
+  takes_earlier c d same q b (listed, some) = (listed, λ maps told. some maps (ap told_together same ∙ told))
 
 pub holds_none : (l : Listing) (s : Shelf) → HoldsTo l 0 s
 holds_none l s = go (held_on s) where
@@ -153,22 +156,30 @@ module _ (l : Listing) (i : ℕ) (id : ChunkId) (is_id : id.0 ≡ id_of l i) whe
 
 -- ---- what the cache gives where nothing fails
 
--- bytes that may be added are given by a store
-pub given_by : {S : Type 0} (holds : S → Option (Map (List ℕ))) (l : Listing) (stores : List S) (maps : List (Map (List ℕ))) → map holds stores ≡ map Some maps
-    → (q b : List ℕ) (n : ℕ) → SomeHolds holds stores q b → IsChunk (kind_of l) q n b → SomeGives (kind_of l) q n maps
-given_by holds l stores maps told q b n some is = any_so (λ (x : Map (List ℕ)). x q ≡ Some b) (λ x. GivesChunk (kind_of l) q n (x q)) (λ x held. (b, held, is)) maps (some maps told)
+-- each store that tells what it holds answers alone
+abbrev pub TellAlone : {S : Type 0} → StoreWords S → Type 0
+TellAlone {S} store = (s : S) → IfSome (store.holds s) (λ m. store.members s ≡ Some (m ∷ []))
 
-module _ {S : Type 0} (holds : S → Option (Map (List ℕ))) (l : Listing) (stores : List S) (m : Map (List ℕ)) (maps : List (Map (List ℕ))) (told : map holds stores ≡ map Some maps) where
-  gave_one : (i : ℕ) (x y : Option (List ℕ)) → m (id_of l i) ≡ x → (y ≡ x) ⊎ ((b : List ℕ) × (y ≡ Some b) × MayFillCache holds l stores (id_of l i) b)
+-- those who answer for such stores hold what these tell
+pub told_members : {S : Type 0} (store : StoreWords S) → TellAlone store → (stores : List S) (maps : List (Map (List ℕ))) → map store.holds stores ≡ map Some maps → maps_of store.members stores ≡ Some maps
+told_members store alone stores maps told = told_alone store.holds store.members alone stores maps told
+
+-- bytes that may be added are given by one of those who answer
+pub given_by : {S : Type 0} (members : S → Option (List (Map (List ℕ)))) (l : Listing) (stores : List S) (maps : List (Map (List ℕ))) → maps_of members stores ≡ Some maps
+    → (q b : List ℕ) (n : ℕ) → SomeHolds members stores q b → IsChunk (kind_of l) q n b → SomeGives (kind_of l) q n maps
+given_by members l stores maps told q b n some is = any_so (λ (x : Map (List ℕ)). x q ≡ Some b) (λ x. GivesChunk (kind_of l) q n (x q)) (λ x held. (b, held, is)) maps (some maps told)
+
+module _ {S : Type 0} (members : S → Option (List (Map (List ℕ)))) (l : Listing) (stores : List S) (m : Map (List ℕ)) (maps : List (Map (List ℕ))) (told : maps_of members stores ≡ Some maps) where
+  gave_one : (i : ℕ) (x y : Option (List ℕ)) → m (id_of l i) ≡ x → (y ≡ x) ⊎ ((b : List ℕ) × (y ≡ Some b) × MayFillCache members l stores (id_of l i) b)
       → GivesChunk (kind_of l) (id_of l i) (size_of l i) y → IsGivenBy l m maps i
   gave_one i x y at (inl same) (b, held, is) = inl (b, at ∙ sym same ∙ held, is)
   gave_one i x y at (inr (b, new, (listed, some))) (c, held, is) =
-      inr (given_by holds l stores maps told (id_of l i) b (size_of l i) some (subst (IsChunk (kind_of l) (id_of l i) (size_of l i)) (same_Some c b (sym held ∙ new)) is))
+      inr (given_by members l stores maps told (id_of l i) b (size_of l i) some (subst (IsChunk (kind_of l) (id_of l i) (size_of l i)) (same_Some c b (sym held ∙ new)) is))
 
   -- what the cache gives that began with m, either it gave then or a store gives
-  pub gave_entry : (i : ℕ) (s t : Shelf) → held_on s ≡ Some m → Stocks (MayFillCache holds l stores) s t → IfSome (held_on t) (λ n. GivesEntry l i n → IsGivenBy l m maps i)
+  pub gave_entry : (i : ℕ) (s t : Shelf) → held_on s ≡ Some m → Stocks (MayFillCache members l stores) s t → IfSome (held_on t) (λ n. GivesEntry l i n → IsGivenBy l m maps i)
   gave_entry i s t began h = go s.files t.files began h.told h.chunks where
-    go : (x y : Option (Map (List ℕ))) → option_map chunks x ≡ Some m → is_some y ≡ is_some x → IfSome x (λ a. IfSome y (λ b. (q : List ℕ) → (chunks b q ≡ chunks a q) ⊎ ((z : List ℕ) × (chunks b q ≡ Some z) × MayFillCache holds l stores q z)))
+    go : (x y : Option (Map (List ℕ))) → option_map chunks x ≡ Some m → is_some y ≡ is_some x → IfSome x (λ a. IfSome y (λ b. (q : List ℕ) → (chunks b q ≡ chunks a q) ⊎ ((z : List ℕ) × (chunks b q ≡ Some z) × MayFillCache members l stores q z)))
         → IfSome (option_map chunks y) (λ n. GivesEntry l i n → IsGivenBy l m maps i)
     go None y began same h = absurd (none-some m began)
     go (Some a) None began same h = tt
@@ -176,26 +187,26 @@ module _ {S : Type 0} (holds : S → Option (Map (List ℕ))) (l : Listing) (sto
 
   -- what it gave then it gives still, where the cache and the stores give one size for each id
   module _ (sizes : GiveOneSize (ListsSize l) (kind_of l) (m ∷ maps)) where
-    still_one : (i : ℕ) (x y : Option (List ℕ)) → i < count_of l → m (id_of l i) ≡ x → (y ≡ x) ⊎ ((b : List ℕ) × (y ≡ Some b) × MayFillCache holds l stores (id_of l i) b)
+    still_one : (i : ℕ) (x y : Option (List ℕ)) → i < count_of l → m (id_of l i) ≡ x → (y ≡ x) ⊎ ((b : List ℕ) × (y ≡ Some b) × MayFillCache members l stores (id_of l i) b)
         → GivesEntry l i m → GivesChunk (kind_of l) (id_of l i) (size_of l i) y
     still_one i x y inside at (inl same) (b, held, is) = (b, same ∙ sym at ∙ held, is)
     still_one i x y inside at (inr (b, new, ((n, listed, is), some))) gives =
         let same : n ≡ size_of l i = sizes (id_of l i) n (size_of l i) listed (i, inside, refl, refl)
-        (any_tail (λ x. GivesChunk (kind_of l) (id_of l i) n (x (id_of l i))) m maps (given_by holds l stores maps told (id_of l i) b n some is))
+        (any_tail (λ x. GivesChunk (kind_of l) (id_of l i) n (x (id_of l i))) m maps (given_by members l stores maps told (id_of l i) b n some is))
         (any_head (λ x. GivesChunk (kind_of l) (id_of l i) (size_of l i) (x (id_of l i))) m maps gives) in
         (b, new, record { named = is.named; sized = is.sized ∙ same })
 
-    pub still_gives : (i : ℕ) (s t : Shelf) → i < count_of l → held_on s ≡ Some m → Stocks (MayFillCache holds l stores) s t → GivesEntry l i m
+    pub still_gives : (i : ℕ) (s t : Shelf) → i < count_of l → held_on s ≡ Some m → Stocks (MayFillCache members l stores) s t → GivesEntry l i m
         → (n : Map (List ℕ)) × (held_on t ≡ Some n) × GivesEntry l i n
     still_gives i s t inside began h gives = go s.files t.files began h.told h.chunks where
-      go : (x y : Option (Map (List ℕ))) → option_map chunks x ≡ Some m → is_some y ≡ is_some x → IfSome x (λ a. IfSome y (λ b. (q : List ℕ) → (chunks b q ≡ chunks a q) ⊎ ((z : List ℕ) × (chunks b q ≡ Some z) × MayFillCache holds l stores q z)))
+      go : (x y : Option (Map (List ℕ))) → option_map chunks x ≡ Some m → is_some y ≡ is_some x → IfSome x (λ a. IfSome y (λ b. (q : List ℕ) → (chunks b q ≡ chunks a q) ⊎ ((z : List ℕ) × (chunks b q ≡ Some z) × MayFillCache members l stores q z)))
           → (n : Map (List ℕ)) × (option_map chunks y ≡ Some n) × GivesEntry l i n
       go None y began same h = absurd (none-some m began)
       go (Some a) None began same h = absurd (true_false (sym same))
       go (Some a) (Some b) began same h = (chunks b, refl, still_one i (chunks a (id_of l i)) (chunks b (id_of l i)) inside (ap (λ (n : Map (List ℕ)). n (id_of l i)) (sym (same_Some (chunks a) m began))) (h (id_of l i)) gives)
 
     -- so a cache that didn't give it then, and didn't fail, didn't give it at first
-    pub not_at_first : (i : ℕ) (s t u : Shelf) → i < count_of l → held_on s ≡ Some m → Stocks (MayFillCache holds l stores) s t → EntryUnfound l i t u → Quiet t.faults u.faults → GivesEntry l i m → ⊥
+    pub not_at_first : (i : ℕ) (s t u : Shelf) → i < count_of l → held_on s ≡ Some m → Stocks (MayFillCache members l stores) s t → EntryUnfound l i t u → Quiet t.faults u.faults → GivesEntry l i m → ⊥
     not_at_first i s t u inside began h unfound quiet gives =
         let now = still_gives i s t inside began h gives in
         let P : Option (Map (List ℕ)) → Type 0 = λ o. IfSome o (λ n. GivesEntry l i n → Rose t.faults u.faults) in

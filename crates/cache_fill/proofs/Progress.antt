@@ -3,6 +3,7 @@ use Rattle.std.proofs.Common.{◌≡◌, ℕ, suc, ◌+◌, ◌<◌, ◌≤◌, 
 use Rattle.std.proofs.lemmas.List.{append_assoc, get_or-map, length-map, map-append, reverse-append, reverse-reverse}
 use Rattle.std.proofs.lemmas.List.Elements.{All-cons, All-head, All-nil, All-tail}
 use Rattle.chunk_dealing.proofs.Owners.{dealt_more, dealt_on}
+use Rattle.cache_fill.proofs.Holding.{TellAlone}
 use Rattle.cache_fill.proofs.Filled.{Turns, answers_filled, answers_lost, answers_stopped, answers_unread, answers_wider, filled_ahead, filled_none, filled_still}
 use Rattle.chunk_dealing.specs.Dealing.{AsksOwn, owner_of}
 use Rattle.cache_fill.specs.Filling.{GivesEntry, IsAside, IsGivenBy, MayFillCache, RefusedAhead, TurnAsks}
@@ -78,16 +79,16 @@ module _ {F S : Type 0} (look : LookWords F) (store : StoreWords S) where
     -- the next entry was seen to with what was read ahead, or with what is on the shelf
     module _ (w : Filling F S) (is : IsFilling look store pairs named w) (more : w.at < count_of w.index.now) (new : Behind F S) (same : new.chain ≡ w.cached.now.chain)
         (aside : IsAside w.index.now w.at (shelf_at look store w.cached.now) (shelf_at look store new))
-        (stocks : Stocks (λ q b. (q ≡ id_of w.index.now w.at) × MayFillCache store.holds w.index.now w.cached.now.chain.stores q b) (shelf_at look store w.cached.now) (shelf_at look store new)) where
+        (stocks : Stocks (λ q b. (q ≡ id_of w.index.now w.at) × MayFillCache store.members w.index.now w.cached.now.chain.stores q b) (shelf_at look store w.cached.now) (shelf_at look store new)) where
       abbrev s0 : Shelf
       s0 = shelf_at look store w.first.value
 
-      pub went_ahead : IfSome (held_on (shelf_at look store new)) (GivesEntry w.index.now w.at)
+      pub went_ahead : TellAlone store → IfSome (held_on (shelf_at look store new)) (GivesEntry w.index.now w.at)
           → ((m : Map (List ℕ)) (maps : List (Map (List ℕ))) → held_on (shelf_at look store w.cached.now) ≡ Some m → map store.holds w.cached.now.chain.stores ≡ map Some maps → IsGivenBy w.index.now m maps w.at)
           → Filled store w.index.now (w.at + 1) s0 (shelf_at look store new) w.first.value.chain new.chain
-      went_ahead gives given =
+      went_ahead alone gives given =
           subst (λ (c : Chained S). Filled store w.index.now (w.at + 1) s0 (shelf_at look store new) w.first.value.chain c) (sym same)
-          (filled_ahead store w.index.now w.at more s0 (shelf_at look store w.cached.now) (shelf_at look store new) w.first.value.chain w.cached.now.chain is.filled aside stocks gives given)
+          (filled_ahead store w.index.now alone w.at more s0 (shelf_at look store w.cached.now) (shelf_at look store new) w.first.value.chain w.cached.now.chain is.filled aside stocks gives given)
 
       -- so many were asked for
       pub still_dealt : (n : ℕ) → w.at ≤ n → AsksOwn store.asked w.index.now (owner_of w.owners.now) 0 n w.first.value.chain new.chain
@@ -96,7 +97,7 @@ module _ {F S : Type 0} (look : LookWords F) (store : StoreWords S) where
           (dealt_on store.asked store.queried w.index.now (owner_of w.owners.now) 0 w.at n le w.first.value.chain w.cached.now.chain is.dealt)
 
       -- or it wasn't filled
-      module _ (kept : Stocks (λ q b. ⊥) (shelf_at look store w.cached.now) (shelf_at look store new)) where
+      module _ (alone : TellAlone store) (kept : Stocks (λ q b. ⊥) (shelf_at look store w.cached.now) (shelf_at look store new)) where
         pub stopped_ahead : (fault : FillFault) → StopsEntry store w.index.now w.at (shelf_at look store w.cached.now) (shelf_at look store new) w.cached.now.chain (stop.Refused fault)
             → FillAnswers store w.index.now s0 (shelf_at look store new) w.first.value.chain new.chain [] [] 0 (Err fault)
         stopped_ahead fault stops =
@@ -104,7 +105,7 @@ module _ {F S : Type 0} (look : LookWords F) (store : StoreWords S) where
             let c = w.cached.now.chain in
             let turn : Turns store w.index.now w.at s (shelf_at look store new) c c = record { asks = inl (refl, aside); stocks = stocks; stores = kept_still store (λ a. a ≡ Get (id_of w.index.now w.at)) c.stores } in
             subst (λ (d : Chained S). FillAnswers store w.index.now s0 (shelf_at look store new) w.first.value.chain d [] [] 0 (Err fault)) (sym same)
-            (answers_stopped store w.index.now w.at more s0 s (shelf_at look store new) w.first.value.chain c c is.filled turn fault stops kept)
+            (answers_stopped store w.index.now alone w.at more s0 s (shelf_at look store new) w.first.value.chain c c is.filled turn fault stops kept)
 
         pub left_ahead : StopsEntry store w.index.now w.at (shelf_at look store w.cached.now) (shelf_at look store new) w.cached.now.chain stop.Unread
             → LeavesEntry store w.index.now w.at s0 (shelf_at look store new) w.first.value.chain new.chain
@@ -140,18 +141,18 @@ module _ {F S : Type 0} (look : LookWords F) (store : StoreWords S) where
       abbrev Lost : ℕ → ℕ → FillFault → Type 0
       Lost entry worker fault = (n : ℕ) × (worker ≡ n + 1) × (n < length f1) × ((x : Chained S) → RefusedAhead store l entry fault (slice_index_or f0 n x) (slice_index_or f1 n x))
 
-      pub ends_so : (t : Result Unit Stop) → FillsOn look store pairs named v w t → OnOk t (count_of w.index.now ≤ w.at) → (rs : List (WantReader S)) → ((worker : ℕ) (fault : FillFault) → TellsLost w.at rs worker fault → Lost w.at worker fault)
+      pub ends_so : TellAlone store → (t : Result Unit Stop) → FillsOn look store pairs named v w t → OnOk t (count_of w.index.now ≤ w.at) → (rs : List (WantReader S)) → ((worker : ℕ) (fault : FillFault) → TellsLost w.at rs worker fault → Lost w.at worker fault)
           → (worker : ℕ) (r : Result Unit FillFault) → EndedSo w.at rs t worker r → Answers l first new worker r
-      ends_so (Ok u) on all rs lost worker r ended =
+      ends_so alone (Ok u) on all rs lost worker r ended =
           let is = on.next in
           so worker r 0 (Ok tt) ended.0 ended.1 (moved (Ok u) on 0 (Ok tt) (answers_filled store w.index.now w.at (omega (arith, all, is.at)) (shelf_at look store w.first.value) (shelf_at look store w.cached.now) w.first.value.chain w.cached.now.chain f0 f1 is.filled))
-      ends_so (Err (stop.Refused fault)) on all rs lost worker r ended =
+      ends_so alone (Err (stop.Refused fault)) on all rs lost worker r ended =
           so worker r 0 (Err fault) ended.0 ended.1 (moved (Err (stop.Refused fault)) on 0 (Err fault) (answers_wider store w.index.now (shelf_at look store w.first.value) (shelf_at look store w.cached.now) w.first.value.chain w.cached.now.chain f0 f1 0 (Err fault) on.ends))
-      ends_so (Err stop.Unread) on all rs lost worker r (inl none) =
+      ends_so alone (Err stop.Unread) on all rs lost worker r (inl none) =
           so worker r 0 (Err faults.Memory) none.0 none.1 (moved (Err stop.Unread) on 0 (Err faults.Memory)
           (answers_wider store w.index.now (shelf_at look store w.first.value) (shelf_at look store w.cached.now) w.first.value.chain w.cached.now.chain f0 f1 0 (Err faults.Memory)
-          (answers_unread store w.index.now w.at (shelf_at look store w.first.value) (shelf_at look store w.cached.now) w.first.value.chain w.cached.now.chain on.ends)))
-      ends_so (Err stop.Unread) on all rs lost worker r (inr (fault, is, tells)) =
+          (answers_unread store w.index.now alone w.at (shelf_at look store w.first.value) (shelf_at look store w.cached.now) w.first.value.chain w.cached.now.chain on.ends)))
+      ends_so alone (Err stop.Unread) on all rs lost worker r (inr (fault, is, tells)) =
           let at = lost worker fault tells in
           let n = at.0 in
           let index : w.index.now ≡ l = on.index ∙ v_index in
@@ -159,7 +160,7 @@ module _ {F S : Type 0} (look : LookWords F) (store : StoreWords S) where
           let alike_w : All (λ x. map store.holds x.stores ≡ map store.holds w.first.value.chain.stores) f0 = subst (λ (f : Behind F S). All (λ x. map store.holds x.stores ≡ map store.holds f.chain.stores) f0) (sym begins) alike in
           let told : (x : Chained S) → RefusedAhead store w.index.now w.at fault (slice_index_or f0 n x) (slice_index_or f1 n x) = subst (λ (k : Listing). (x : Chained S) → RefusedAhead store k w.at fault (slice_index_or f0 n x) (slice_index_or f1 n x)) (sym index) at.3 in
           so worker r (n + 1) (Err fault) at.1 is (moved (Err stop.Unread) on (n + 1) (Err fault)
-          (answers_lost store w.index.now w.at (shelf_at look store w.first.value) (shelf_at look store w.cached.now) w.first.value.chain w.cached.now.chain on.ends f0 f1 alike_w n (omega (arith, many, at.2)) at.2 fault told))
+          (answers_lost store w.index.now alone w.at (shelf_at look store w.first.value) (shelf_at look store w.cached.now) w.first.value.chain w.cached.now.chain on.ends f0 f1 alike_w n (omega (arith, many, at.2)) at.2 fault told))
 
       -- and the stores of all were asked so
       pub shared_so : (t : Result Unit Stop) → FillsOn look store pairs named v w t → (owners : List ℕ) → v.owners.now ≡ owners → AsksOwn store.asked l (owner_of owners) 0 (count_of l) first.chain new.chain

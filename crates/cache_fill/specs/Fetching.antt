@@ -10,9 +10,9 @@ use Rattle.dsy_base.specs.Maps.{Map}
 use Rattle.store_chain.specs.Chains.{Chained, KeepsStores}
 use Rattle.store_chain.specs.Giving.{SomeHolds}
 
--- some store holds the bytes under the id of entry i
-abbrev pub SomeHoldsEntry : {S : Type 0} → (S → Option (Map (List ℕ))) → Listing → List S → ℕ → List ℕ → Type 0
-SomeHoldsEntry holds l stores i b = SomeHolds holds stores (id_of l i) b
+-- some member of the stores holds the bytes under the id of entry i
+abbrev pub SomeHoldsEntry : {S : Type 0} → (S → Option (List (Map (List ℕ)))) → Listing → List S → ℕ → List ℕ → Type 0
+SomeHoldsEntry members l stores i b = SomeHolds members stores (id_of l i) b
 
 -- ---- which entries are worth it: a list with a mark for each
 

@@ -36,7 +36,7 @@ module _ {S : Type 0} (store : StoreWords S) (l : Listing) where
         → IsGivenBy l m maps j
     pub asks : AsksEntries store.asked store.queried l i c0 c
     pub spared : Spared s0 s c0 c
-    pub stocks : Stocks (λ q b. IsListedId l i q × MayFillCache store.holds l c0.stores q b) s0 s
+    pub stocks : Stocks (λ q b. IsListedId l i q × MayFillCache store.members l c0.stores q b) s0 s
     pub stores : KeepsStores store (IsGetBefore l i) c0.stores c.stores
 
   -- why entry i isn't filled: it was refused, or a further worker was to read it, and the cache doesn't give it
@@ -64,7 +64,7 @@ module _ {S : Type 0} (store : StoreWords S) (l : Listing) where
         → FillsBy l m maps result
     pub asks : AsksEntries store.asked store.queried l (count_of l) c0 c
     pub spared : SparesStores l s0 s c0 c
-    pub stocks : Stocks (MayFillCache store.holds l c0.stores) s0 s
+    pub stocks : Stocks (MayFillCache store.members l c0.stores) s0 s
     pub stores : KeepsStores store (IsListedGet l) c0.stores c.stores
 
 module _ {F S : Type 0} (look : LookWords F) (store : StoreWords S) where

@@ -50,10 +50,11 @@ HoldsTo l k s = IfSome (held_on s) (λ m. (i : ℕ) → i < k → HoldsEntry l i
 abbrev pub ListsSize : Listing → List ℕ → ℕ → Type 0
 ListsSize l id size = (i : ℕ) × (i < count_of l) × (id_of l i ≡ id) × (size_of l i ≡ size)
 
--- the bytes are listed under the id, and some store holds them there
-abbrev pub MayFillCache : {S : Type 0} → (S → Option (Map (List ℕ))) → Listing → List S → List ℕ → List ℕ → Type 0
-MayFillCache holds l stores id b = ((n : ℕ) × ListsSize l id n × IsChunk (kind_of l) id n b)
-    × SomeHolds holds stores id b
+-- the bytes are listed under the id, and some member of the stores holds them there
+abbrev pub MayFillCache : {S : Type 0} → (S → Option (List (Map (List ℕ)))) → Listing → List S → List ℕ → List ℕ
+    → Type 0
+MayFillCache members l stores id b = ((n : ℕ) × ListsSize l id n × IsChunk (kind_of l) id n b)
+    × SomeHolds members stores id b
 
 -- ---- where nothing fails
 
@@ -193,7 +194,7 @@ module _ {S : Type 0} (store : StoreWords S) (l : Listing) where
   -- holds, and the stores were asked for these alone
   pub record FillsFirst (k : ℕ) (s0 s : Shelf) (c0 c : Chained S) : Type 0 where
     pub holds : HoldsTo l k s
-    pub stocks : Stocks (λ q b. IsListedId l k q × MayFillCache store.holds l c0.stores q b) s0 s
+    pub stocks : Stocks (λ q b. IsListedId l k q × MayFillCache store.members l c0.stores q b) s0 s
     pub asks : AsksEntries store.asked store.queried l k c0 c
     pub stores : KeepsStores store (IsGetBefore l k) c0.stores c.stores
 

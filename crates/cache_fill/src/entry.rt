@@ -77,7 +77,7 @@ pub(crate) fn fill_entry<F: Folder, S: Store>(
         (shelf_of F.files F.place F.faults cached.old.shelf) (shelf_of F.files F.place F.faults cached.new.shelf)
         cached.old.chain cached.new.chain }
     ensures stocks { Stocks (λ q b. (q ≡ id_of index.now i)
-        × MayFillCache S.holds index.now cached.old.chain.stores q b)
+        × MayFillCache S.members index.now cached.old.chain.stores q b)
         (shelf_of F.files F.place F.faults cached.old.shelf) (shelf_of F.files F.place F.faults cached.new.shelf) }
     ensures stores { KeepsStores S.Store (λ a. a ≡ Get (id_of index.now i))
         cached.old.chain.stores cached.new.chain.stores }
@@ -122,11 +122,11 @@ pub(crate) fn add_ahead<F: Folder, S: Store>(
     requires kind { cached.old.chain.kind ≡ kind_of index.now }
     requires unnamed { (F.pairs ≡ None) × (F.stores ≡ None) }
     requires read { IfSome read (λ b. IsListedSlice index.now
-        (SomeHoldsEntry S.holds index.now cached.old.chain.stores) i b.now) }
+        (SomeHoldsEntry S.members index.now cached.old.chain.stores) i b.now) }
     ensures aside { IsAside index.now i (shelf_of F.files F.place F.faults cached.old.shelf)
         (shelf_of F.files F.place F.faults cached.new.shelf) }
     ensures stocks { Stocks (λ q b. (q ≡ id_of index.now i)
-        × MayFillCache S.holds index.now cached.old.chain.stores q b)
+        × MayFillCache S.members index.now cached.old.chain.stores q b)
         (shelf_of F.files F.place F.faults cached.old.shelf) (shelf_of F.files F.place F.faults cached.new.shelf) }
     ensures chain { cached.new.chain ≡ cached.old.chain }
 

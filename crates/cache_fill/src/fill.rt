@@ -88,6 +88,7 @@ fn fill_entries<R: Threads + Sync, F: Folder, S: Store + Send>(
     requires numbered { RiseByOne 1 readers.old }
     requires kinds { All (λ r. r.chain.kind ≡ kind_of index.now) readers.old }
     requires alike { All (λ r. map S.holds r.chain.stores ≡ map S.holds cached.old.chain.stores) readers.old }
+    requires members { All (λ r. map S.members r.chain.stores ≡ map S.members cached.old.chain.stores) readers.old }
     ensures answers { FillAnswers S.Store index.now (shelf_at F.Look S.Store first.value)
         (shelf_at F.Look S.Store cached.new) first.value.chain cached.new.chain
         (map (λ r. r.chain) readers.old) (map (λ r. r.chain) readers.new) result.worker result.result }
@@ -142,6 +143,7 @@ fn fill_beside<'a, R: Threads + Sync, F: Folder, S: Store + Send>(
         (owner_of dealt.now.owners.items) }
     requires kinds { All (λ c. c.kind ≡ kind_of index.now) further.old.items }
     requires alike { All (λ c. map S.holds c.stores ≡ map S.holds cached.old.chain.stores) further.old.items }
+    requires members { All (λ c. map S.members c.stores ≡ map S.members cached.old.chain.stores) further.old.items }
     ensures answers { FillAnswers S.Store index.now (shelf_at F.Look S.Store first.value)
         (shelf_at F.Look S.Store cached.new) first.value.chain cached.new.chain further.old.items further.new.items
         result.worker result.result }
@@ -181,9 +183,10 @@ pub fn fill<R: Threads + Sync, F: Folder, S: Store + Send>(
 ) -> FillEnded
     requires kind { cached.old.chain.kind ≡ kind_of index.now }
     requires unnamed { (F.pairs ≡ None) × (F.stores ≡ None) }
-    // Further workers name chunks by the same digest, and their stores hold the same.
+    // Further workers name chunks by the same digest, and their stores and the members of these hold the same.
     requires kinds { All (λ c. c.kind ≡ kind_of index.now) further.old.items }
     requires alike { All (λ c. map S.holds c.stores ≡ map S.holds cached.old.chain.stores) further.old.items }
+    requires members { All (λ c. map S.members c.stores ≡ map S.members cached.old.chain.stores) further.old.items }
     ensures holds { HoldsTo index.now (filled_to index.now result.result)
         (shelf_of F.files F.place F.faults cached.new.shelf) }
     ensures order { FillEnds S.Store index.now
@@ -205,7 +208,7 @@ pub fn fill<R: Threads + Sync, F: Folder, S: Store + Send>(
     ensures asks { AsksEntries S.asked S.queried index.now (count_of index.now) cached.old.chain cached.new.chain }
     ensures spared { SparesStores index.now (shelf_of F.files F.place F.faults cached.old.shelf)
         (shelf_of F.files F.place F.faults cached.new.shelf) cached.old.chain cached.new.chain }
-    ensures stocks { Stocks (MayFillCache S.holds index.now cached.old.chain.stores)
+    ensures stocks { Stocks (MayFillCache S.members index.now cached.old.chain.stores)
         (shelf_of F.files F.place F.faults cached.old.shelf) (shelf_of F.files F.place F.faults cached.new.shelf) }
     ensures stores { KeepsStores S.Store (IsListedGet index.now) cached.old.chain.stores cached.new.chain.stores }
     ensures further { AllZip (FetchesAhead S.Store index.now) further.old.items further.new.items }

@@ -88,7 +88,7 @@ impl<'a, F: Folder, S: Store> Filling<'a, F, S> {
     fn take_ahead(&mut self, ready: &[Ahead]) -> Result<(), Stop>
         requires more { self.old.at < count_of self.old.index.now }
         requires filling { IsFilling F.Look S.Store F.pairs F.stores self.old }
-        requires ready { All (IsAhead self.old.index.now (SomeHoldsEntry S.holds self.old.index.now
+        requires ready { All (IsAhead self.old.index.now (SomeHoldsEntry S.members self.old.index.now
             self.old.first.value.chain.stores)) ready.now }
         ensures on { FillsOn F.Look S.Store F.pairs F.stores self.old self.new result }
         ensures next { OnOk result (self.new.at ≡ self.old.at + 1) }
@@ -146,7 +146,7 @@ impl<'a, F: Folder, S: Store> Consumer<Ahead> for Filling<'a, F, S> {
 
     ghost can_go_on = { λ s. IsFilling F.Look S.Store F.pairs F.stores s };
 
-    ghost accepts = { λ s a. IsAhead s.index.now (SomeHoldsEntry S.holds s.index.now s.first.value.chain.stores) a };
+    ghost accepts = { λ s a. IsAhead s.index.now (SomeHoldsEntry S.members s.index.now s.first.value.chain.stores) a };
 
     ghost goes = { λ a b r. FillsOn F.Look S.Store F.pairs F.stores a b r };
 

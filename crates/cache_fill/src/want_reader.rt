@@ -46,17 +46,17 @@ impl<'a, S: Store> WantReader<'a, S> {
         requires order { self.old.next ≤ i }
         requires unlost { self.old.lost ≡ None }
         requires kind { self.old.chain.kind ≡ kind_of self.old.index.now }
-        requires right { IsAhead self.old.index.now (SomeHoldsEntry S.holds self.old.index.now
+        requires right { IsAhead self.old.index.now (SomeHoldsEntry S.members self.old.index.now
             self.old.chain.stores) room.old }
         requires space { HasSpaceAbove self.old.index.now i room.old }
-        ensures right { IsAhead self.new.index.now (SomeHoldsEntry S.holds self.new.index.now
+        ensures right { IsAhead self.new.index.now (SomeHoldsEntry S.members self.new.index.now
             self.new.chain.stores) room.new }
         ensures order { self.new.next ≤ count_of self.new.index.now }
         ensures kind { self.new.chain.kind ≡ kind_of self.new.index.now }
         ensures index { self.new.index.now ≡ self.old.index.now }
         ensures owners { self.new.owners.now ≡ self.old.owners.now }
         ensures number { self.new.number ≡ self.old.number }
-        ensures held { map S.holds self.new.chain.stores ≡ map S.holds self.old.chain.stores }
+        ensures members { map S.members self.new.chain.stores ≡ map S.members self.old.chain.stores }
         ensures on { (c : Chained S) → Fetches S.Store self.old.index.now (owner_of self.old.owners.now)
             self.old.number self.old.next c self.old.chain →
             Fetches S.Store self.new.index.now (owner_of self.new.owners.now) self.new.number self.new.next c
@@ -100,7 +100,7 @@ impl<'a, S: Store> Reader<Ahead> for WantReader<'a, S> {
 
     ghost can_read = { λ r. (r.next ≤ count_of r.index.now) × (r.chain.kind ≡ kind_of r.index.now) };
 
-    ghost is_right = { λ r a. IsAhead r.index.now (SomeHoldsEntry S.holds r.index.now r.chain.stores) a };
+    ghost is_right = { λ r a. IsAhead r.index.now (SomeHoldsEntry S.members r.index.now r.chain.stores) a };
 
     ghost went = { λ r s. (s.index.now ≡ r.index.now) × (s.owners.now ≡ r.owners.now) × (s.number ≡ r.number)
         × (s.next ≤ count_of s.index.now)

@@ -41,10 +41,10 @@ pub ok_err : {X E : Type 0} (x : X) (e : E) → Ok x ≡ Err e → ⊥
 ok_err x e is = cc
 
 -- the bytes that were added are what was wanted, and a store holds them
-pub added_wanted : {S : Type 0} (holds : S → Option (Map (List ℕ))) (w : Query) (id added b : List ℕ) (stores : List S) → added ≡ b → IsWanted w b → SomeHolds holds stores id b
-    → (q x : List ℕ) → (q ≡ id) × (x ≡ added) → (q ≡ id) × IsWanted w x × SomeHolds holds stores q x
-added_wanted holds w id added b stores same wanted held q x t =
+pub added_wanted : {S : Type 0} (members : S → Option (List (Map (List ℕ)))) (w : Query) (id added b : List ℕ) (stores : List S) → added ≡ b → IsWanted w b → SomeHolds members stores id b
+    → (q x : List ℕ) → (q ≡ id) × (x ≡ added) → (q ≡ id) × IsWanted w x × SomeHolds members stores q x
+added_wanted members w id added b stores same wanted held q x t =
     let back : b ≡ x = sym (t.1 ∙ same) in
-    let P : List ℕ → Type 0 = λ z. SomeHolds holds stores id z in
-    let Q : List ℕ → Type 0 = λ z. SomeHolds holds stores z x in
+    let P : List ℕ → Type 0 = λ z. SomeHolds members stores id z in
+    let Q : List ℕ → Type 0 = λ z. SomeHolds members stores z x in
     (t.0, subst (IsWanted w) back wanted, subst Q (sym t.0) (subst P back held))

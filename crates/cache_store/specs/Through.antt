@@ -13,7 +13,7 @@ use Rattle.dsy_base.specs.declared.fault.IoFault.{IoFault}
 use Rattle.dsy_base.specs.declared.fault.IoFault.TheVariants as io
 use Rattle.store_chain.specs.Chains.{AsksOnce, Chained}
 use Rattle.store_chain.specs.Faults.{EachQuiet}
-use Rattle.store_chain.specs.Giving.{LacksAll, Obtains, SomeHolds}
+use Rattle.store_chain.specs.Giving.{LacksAll, LacksTogether, Obtains, SomeHolds}
 use Rattle.store_chain.specs.Refusals.{GivenBy, Refuses}
 use Rattle.store_chain.specs.declared.refused.Refused.{Refused}
 use Rattle.store_chain.specs.declared.refused.Refused.TheVariants as refused
@@ -69,14 +69,15 @@ pub record CacheGave {S : Type 0} (w : Query) (old new : Shelf) (before after : 
   pub answer : ShelfAnswers w old r out
 
 -- the cache didn't give it, and the stores were asked once: what they gave was added to the cache
-pub record StoresGave {S : Type 0} (holds : S → Option (Map (List ℕ))) (said : S → Said) (faults : S → ℕ)
-    (lacks_memory : Bool) (asked queried : S → List ℕ → ℕ) (w : Query) (old new : Shelf) (before after : Chained S)
-    (r : Result Got Refused) (out : List ℕ) : Type 0 where
+pub record StoresGave {S : Type 0} (holds : S → Option (Map (List ℕ))) (members : S → Option (List (Map (List ℕ))))
+    (said : S → Said) (faults : S → ℕ) (lacks_memory : Bool) (asked queried : S → List ℕ → ℕ) (w : Query)
+    (old new : Shelf) (before after : Chained S) (r : Result Got Refused) (out : List ℕ) : Type 0 where
   pub unfound : Unfound w old new
   pub added : ShelfAdds w old new r out
   pub asks : AsksOnce asked queried w.id.0 before after
   pub found : IfOk r (λ got. GivenBy said faults lacks_memory w (take got.size out) before.stores after.stores)
-  pub had : IfOk r (λ got. SomeHolds holds before.stores w.id.0 (take got.size out))
+  pub had : IfOk r (λ got. SomeHolds members before.stores w.id.0 (take got.size out))
+  pub lacks : IfErr r (LacksTogether w (map members before.stores))
   pub absent : IfErr r (Refuses said faults lacks_memory w before.stores after.stores)
   pub first : (maps : List (Map (List ℕ))) → map holds before.stores ≡ map Some maps → IfErr r (LacksAll w maps)
   pub exactly : (maps : List (Map (List ℕ))) → map holds before.stores ≡ map Some maps
@@ -100,8 +101,9 @@ module _ {F S : Type 0} (files : F → Option (Map (List ℕ))) (place : F → L
       (shelf_of files place faults_of new.shelf) old.chain new.chain r out
 
   -- or from the stores
-  abbrev pub FromStores : (S → Option (Map (List ℕ))) → (S → Said) → (S → ℕ) → Bool → (S → List ℕ → ℕ)
-      → (S → List ℕ → ℕ) → Query → Behind F S → Behind F S → Result Got Refused → List ℕ → Type 0
-  FromStores holds said faults lacks_memory asked queried w old new r out = StoresGave holds said faults lacks_memory
-      asked queried w (shelf_of files place faults_of old.shelf) (shelf_of files place faults_of new.shelf) old.chain
-      new.chain r out
+  abbrev pub FromStores : (S → Option (Map (List ℕ))) → (S → Option (List (Map (List ℕ)))) → (S → Said) → (S → ℕ)
+      → Bool → (S → List ℕ → ℕ) → (S → List ℕ → ℕ) → Query → Behind F S → Behind F S → Result Got Refused → List ℕ
+      → Type 0
+  FromStores holds members said faults lacks_memory asked queried w old new r out = StoresGave holds members said
+      faults lacks_memory asked queried w (shelf_of files place faults_of old.shelf)
+      (shelf_of files place faults_of new.shelf) old.chain new.chain r out

@@ -97,20 +97,20 @@ pub fn obtain_through<C: Cache, S: Store>(
     requires kind { (C.shelf cache.old).kind ≡ chain.old.kind }
     // What the stores give may be added.
     requires listed { (b : List ℕ) → IsWanted (query_of chain.old.kind id.now size (length out.old)) b →
-        SomeHolds S.holds chain.old.stores id.now.0 b → IfSome C.pairs (IsPair id.now.0 (length b)) }
+        SomeHolds S.members chain.old.stores id.now.0 b → IfSome C.pairs (IsPair id.now.0 (length b)) }
     requires held { (b : List ℕ) → IsWanted (query_of chain.old.kind id.now size (length out.old)) b →
-        SomeHolds S.holds chain.old.stores id.now.0 b → IfSome C.stores (Any (λ m. m id.now.0 ≡ Some b)) }
+        SomeHolds S.members chain.old.stores id.now.0 b → IfSome C.stores (Any (λ m. m id.now.0 ≡ Some b)) }
     ensures ok { IfOk result (λ got. FillsQuery (query_of chain.old.kind id.now size (length out.old)) got.size
         out.new) }
     ensures ends { CacheGave (query_of chain.old.kind id.now size (length out.old)) (C.shelf cache.old)
         (C.shelf cache.new) chain.old chain.new result out.new
-        ⊎ StoresGave S.holds S.said S.faults S.may_lack_memory S.asked S.queried
+        ⊎ StoresGave S.holds S.members S.said S.faults S.may_lack_memory S.asked S.queried
         (query_of chain.old.kind id.now size (length out.old)) (C.shelf cache.old) (C.shelf cache.new) chain.old
         chain.new result out.new }
     ensures added { IfOk result (λ got. got.upstream ≡ true → AddedOnce C.looks C.adds id.now.0
         (take got.size out.new) got.kept cache.old cache.new) }
     ensures stocks { Stocks (λ q b. (q ≡ id.now.0) × IsWanted (query_of chain.old.kind id.now size (length out.old)) b
-        × SomeHolds S.holds chain.old.stores q b) (C.shelf cache.old) (C.shelf cache.new) }
+        × SomeHolds S.members chain.old.stores q b) (C.shelf cache.old) (C.shelf cache.new) }
     ensures stores { KeepsStores S.Store (λ a. a ≡ Get id.now.0) chain.old.stores chain.new.stores }
     ensures kind { chain.new.kind ≡ chain.old.kind }
 {
@@ -215,11 +215,11 @@ impl<F: Folder, S: Store> Cached<F, S> {
             out.new) }
         ensures ends { FromShelf F.files F.place F.faults (query_of self.old.chain.kind id.now size (length out.old))
             self.old self.new result out.new
-            ⊎ FromStores F.files F.place F.faults S.holds S.said S.faults S.may_lack_memory S.asked S.queried
+            ⊎ FromStores F.files F.place F.faults S.holds S.members S.said S.faults S.may_lack_memory S.asked S.queried
             (query_of self.old.chain.kind id.now size (length out.old)) self.old self.new result out.new }
         ensures stocks { Stocks (λ q b. (q ≡ id.now.0)
             × IsWanted (query_of self.old.chain.kind id.now size (length out.old)) b
-            × SomeHolds S.holds self.old.chain.stores q b) (shelf_of F.files F.place F.faults self.old.shelf)
+            × SomeHolds S.members self.old.chain.stores q b) (shelf_of F.files F.place F.faults self.old.shelf)
             (shelf_of F.files F.place F.faults self.new.shelf) }
         ensures stores { KeepsStores S.Store (λ a. a ≡ Get id.now.0) self.old.chain.stores self.new.chain.stores }
         ensures kind { self.new.chain.kind ≡ self.old.chain.kind }

@@ -5,6 +5,7 @@ use Rattle.std.specs.List.{Any}
 use Rattle.caibx_codec.specs.Listing.{Listing, Rules, id_of, kind_of, size_of}
 use Rattle.cat_command.specs.Cat.{EndsRange, HasShownEntry, IsGivenEntry, PutsBefore, PutsFirst, IfFolders}
 use Rattle.cat_command.specs.Putting.{EndsGiving, PutsGiven, PutsUntil, bytes_before, chunk_at}
+use Rattle.chunk_store.proofs.Members.{told_alone}
 use Rattle.chunk_store.specs.Folders.{chunks}
 use Rattle.chunk_store.specs.Giving.{IsChunk}
 use Rattle.chunk_store.specs.declared.id.ChunkId.{ChunkId}
@@ -51,7 +52,8 @@ any_as location T P Q f (y ∷ xs) (q ∷ names) same all (suc k) x lt is p =
 
 module _ {S : Type 0} (sure : Bool) (store : StoreWords S) (locations : S → List Location) (files : S → Option (Map (List ℕ))) (retries : ℕ) (w v : World) (groups : List (List Location)) (l : Listing) (rules : Rules l) (at n : ℕ) (c d : Chained S) (kind : c.kind ≡ kind_of l)
     (held : (fs : List (Map (List ℕ))) → map files c.stores ≡ map Some fs → map store.holds c.stores ≡ map Some (map chunks fs)) (found : IfSome w.disk.folders (λ m. map files c.stores ≡ map (group_files sure m) groups))
-    (located : map locations d.stores ≡ groups) (stand : All (GroupStands locations store.said store.faults retries (storage_of w) (storage_of v)) d.stores) where
+    (located : map locations d.stores ≡ groups) (stand : All (GroupStands locations store.said store.faults retries (storage_of w) (storage_of v)) d.stores)
+    (alone : (s : S) → IfSome (store.holds s) (λ m. store.members s ≡ Some (m ∷ []))) where
   -- what holds where all groups tell
   where_told : (P : List (Map (List ℕ)) → Type 0) → ((fs : List (Map (List ℕ))) → map files c.stores ≡ map Some fs → map store.holds c.stores ≡ map Some (map chunks fs) → P fs) → IfFolders sure (storage_of w) groups P
   where_told P f = go w.disk.folders found where
@@ -63,7 +65,7 @@ module _ {S : Type 0} (sure : Bool) (store : StoreWords S) (locations : S → Li
   gives_told : (i : ℕ) → IsGot store c.kind (want_of l i) c.stores d.stores → (fs : List (Map (List ℕ))) → map store.holds c.stores ≡ map Some (map chunks fs) → SomeGivesEntry l i (map chunks fs)
   gives_told i g fs told =
       let C : DigestKind → Type 0 = λ k. IsChunk k (id_of l i) (size_of l i) g.bytes in
-      let any = g.held (map chunks fs) told in
+      let any = g.held (map chunks fs) (told_alone store.holds store.members alone c.stores (map chunks fs) told) in
       (any.0, any.1, any.2, any.3, (g.bytes, any.4, subst C kind g.chunk))
 
   given_entry : (i : ℕ) → IsGot store c.kind (want_of l i) c.stores d.stores → IsGivenEntry sure groups retries l at n w v i

@@ -38,7 +38,7 @@ module _ {F S : Type 0} (files : F → Option (Map (List ℕ))) (place : F → L
   -- a chunk was sought
   pub asks_one : (id : ChunkId) (room : ℕ) (old new : Behind F S) (r : Result Got Refused) (out : List ℕ)
       → FromShelf files place faults (query_of old.chain.kind id None room) old new r out
-      ⊎ FromStores files place faults store.holds store.said store.faults store.may_lack_memory store.asked store.queried (query_of old.chain.kind id None room) old new r out
+      ⊎ FromStores files place faults store.holds store.members store.said store.faults store.may_lack_memory store.asked store.queried (query_of old.chain.kind id None room) old new r out
       → KeepsStores store (λ a. a ≡ Get id.0) old.chain.stores new.chain.stores → AsksForChunks store old.chain.stores new.chain.stores
   asks_one id room old new r out (inl cached) keeps =
       subst (λ xs. AsksForChunks store old.chain.stores xs) (sym (ap (λ (c : Chained S). c.stores) cached.chain)) (asks_none store old.chain.stores)

@@ -86,7 +86,7 @@ module _ {F S : Type 0} (files : F → Option (Map (List ℕ))) (place : F → L
   Shelves r out = FromShelf files place faults (any_size kind id) old new r out
 
   abbrev Stores : Result Got Refused → List ℕ → Type 0
-  Stores r out = FromStores files place faults store.holds store.said store.faults store.may_lack_memory store.asked store.queried (any_size kind id) old new r out
+  Stores r out = FromStores files place faults store.holds store.members store.said store.faults store.may_lack_memory store.asked store.queried (any_size kind id) old new r out
 
   in_parts : Surely true → Parts never_fails store.tells store.never_fails (not store.may_lack_memory || nat_le (length (map store.holds old.chain.stores)) 1)
   in_parts so = parts _ _ _ _ so

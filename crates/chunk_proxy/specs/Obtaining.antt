@@ -47,8 +47,8 @@ module _ {F S : Type 0} (files : F → Option (Map (List ℕ))) (place : F → L
   -- the chunk was obtained so, in one call, from the cache or from the stores
   abbrev pub ObtainsSo : ChunkId → Behind F S → Behind F S → Result Got Refused → List ℕ → Type 0
   ObtainsSo id old new r out = FromShelf files place faults (any_size old.chain.kind id) old new r out
-      ⊎ FromStores files place faults store.holds store.said store.faults store.may_lack_memory store.asked
-      store.queried (any_size old.chain.kind id) old new r out
+      ⊎ FromStores files place faults store.holds store.members store.said store.faults store.may_lack_memory
+      store.asked store.queried (any_size old.chain.kind id) old new r out
 
   -- the chunk was sought in one call, and the reply tells how that ended
   pub record TellsChunk (m : ReadMethod) (id : ChunkId) (old new : Behind F S) (r : Answer) : Type 0 where

@@ -15,6 +15,8 @@ use Rattle.chunk_sources.proofs.Origins.{by_either, by_none, by_store, by_want}
 use Rattle.chunk_sources.specs.Caches.{OthersAddOnly, AddsSize, CacheFailed, CacheLacks, TakesChunk, cached_in, given_maps, maps_with, shared_maps}
 use Rattle.chunk_sources.specs.Economy.{AnsweredAs, ObtainedBy, as_upstream, source_behind}
 use Rattle.chunk_sources.specs.Losses.{chunk_of}
+use Rattle.chunk_sources.specs.Sources.{Agree}
+use Rattle.chunk_store.specs.Members.{maps_of}
 use Rattle.chunk_store.specs.Folders.{chunks}
 use Rattle.chunk_store.specs.Digests.{digest_of}
 use Rattle.chunk_store.specs.declared.id.ChunkId.{ChunkId}
@@ -115,7 +117,7 @@ module _ {S : Type 0} (store : StoreWords S) (kind : DigestKind) (id : ChunkId) 
   w = chunk_of kind id size
 
   abbrev Ends : Result Got Refused → Type 0
-  Ends r = CacheGave w old new before after r out ⊎ StoresGave store.holds store.said store.faults store.may_lack_memory store.asked store.queried w old new before after r out
+  Ends r = CacheGave w old new before after r out ⊎ StoresGave store.holds store.members store.said store.faults store.may_lack_memory store.asked store.queried w old new before after r out
 
   -- the stores were asked only where the cache failed or lacks the chunk
   pub asks_through : old.kind ≡ kind → IfSome old.others (λ o. old.kind ≡ o.kind) → (r : Result Got Refused) → Ends r
@@ -135,17 +137,17 @@ module _ {S : Type 0} (store : StoreWords S) (kind : DigestKind) (id : ChunkId) 
   lacks_through alone r (inr from) isnt = λ now told gives.
       unfound_rose kind id size old new now alone (ap (option_map (λ m. chunks m ∷ [])) (sym from.added) ∙ told) from.unfound gives
 
-  from_stores : (maps : List (Map (List ℕ))) → map store.holds before.stores ≡ map Some maps → (got : Got) → IsWanted w (take got.size out)
-      → StoresGave store.holds store.said store.faults store.may_lack_memory store.asked store.queried w old new before after (Ok got) out → SomeGives kind id.0 size maps
+  from_stores : (maps : List (Map (List ℕ))) → maps_of store.members before.stores ≡ Some maps → (got : Got) → IsWanted w (take got.size out)
+      → StoresGave store.holds store.members store.said store.faults store.may_lack_memory store.asked store.queried w old new before after (Ok got) out → SomeGives kind id.0 size maps
   from_stores maps held got right from = holds_gives kind id size maps (take got.size out) right (from.had maps held)
 
-  pub had_through : (cached maps : List (Map (List ℕ))) → given_maps (Some old) ≡ Some cached → map store.holds before.stores ≡ map Some maps
+  pub had_through : (cached maps : List (Map (List ℕ))) → given_maps (Some old) ≡ Some cached → maps_of store.members before.stores ≡ Some maps
       → (got : Got) → IsWanted w (take got.size out) → Ends (Ok got) → SomeGives kind id.0 size (cached ++ maps)
   had_through cached maps told held got right (inl from) =
       gives_left kind id.0 size cached maps (cache_gives kind id size (take got.size out) right old.others old.files from.answer.2 cached told)
   had_through cached maps told held got right (inr from) = gives_right kind id.0 size cached maps (from_stores maps held got right from)
 
-  module _ (alone : old.others ≡ None) (cached maps : List (Map (List ℕ))) (told : cached_in (Some old) ≡ Some cached) (held : map store.holds before.stores ≡ map Some maps)
+  module _ (alone : old.others ≡ None) (cached maps : List (Map (List ℕ))) (told : cached_in (Some old) ≡ Some cached) (held : maps_of store.members before.stores ≡ Some maps) (agree : Agree store kind id.0 size before.stores)
       (still : Quiet old.faults new.faults) where
     pub fetched_through : (got : Got) → got.upstream ≡ true → IsWanted w (take got.size out) → Ends (Ok got)
         → ObtainedBy (source_behind kind id.0 size cached maps) before after (Ok fate.Fetched)
@@ -160,13 +162,13 @@ module _ {S : Type 0} (store : StoreWords S) (kind : DigestKind) (id : ChunkId) 
         (by_want kind id.0 size cached maps before after)
     refused_through quiet r (inr from) =
         by_none kind id.0 size cached maps before after (unfound_never kind id size old new cached alone told still from.unfound) from.asks.calls r
-        (lacked_memory kind id size maps r
+        (lacked_memory kind id size (map store.members before.stores) maps held agree r
         (λ s is. quiet_never (slice_index (map store.faults before.stores) s) (slice_index (map store.faults after.stores) s) (quiet s) (from.cause s (ap (λ (q : Refused). Err q) is)))
-        (from.first maps held))
+        from.lacks)
 
   -- ---- where others add to it too
 
-  module _ (cached maps : List (Map (List ℕ))) (only : OthersAddOnly kind id.0 size (Some old) cached maps) (told : cached_in (Some old) ≡ Some cached) (held : map store.holds before.stores ≡ map Some maps) where
+  module _ (cached maps : List (Map (List ℕ))) (only : OthersAddOnly kind id.0 size (Some old) cached maps) (told : cached_in (Some old) ≡ Some cached) (held : maps_of store.members before.stores ≡ Some maps) (agree : Agree store kind id.0 size before.stores) where
     -- what was obtained it held at first, or a store holds it
     pub had_shared : (got : Got) → IsWanted w (take got.size out) → Ends (Ok got) → SomeGives kind id.0 size cached ⊎ SomeGives kind id.0 size maps
     had_shared got right (inr from) = inr (from_stores maps held got right from)
@@ -196,12 +198,12 @@ module _ {S : Type 0} (store : StoreWords S) (kind : DigestKind) (id : ChunkId) 
     err_shared same digest still quiet r (inl from) = inl from.answer
     err_shared same digest still quiet r (inr from) =
         (by_none kind id.0 size cached maps before after (never_shared same digest still from.unfound) from.asks.calls r
-        (lacked_memory kind id size maps r
+        (lacked_memory kind id size (map store.members before.stores) maps held agree r
         (λ s is. quiet_never (slice_index (map store.faults before.stores) s) (slice_index (map store.faults after.stores) s) (quiet s) (from.cause s (ap (λ (q : Refused). Err q) is)))
-        (from.first maps held))).1
+        from.lacks)).1
 
 -- what was wanted is the chunk
 pub takes_wanted : {S : Type 0} (store : StoreWords S) (kind : DigestKind) (id : ChunkId) (size : ℕ) (stores : List S) (q b : List ℕ)
-    → (q ≡ id.0) × IsWanted (chunk_of kind id size) b × SomeHolds store.holds stores q b → TakesChunk store kind id.0 size stores q b
+    → (q ≡ id.0) × IsWanted (chunk_of kind id size) b × SomeHolds store.members stores q b → TakesChunk store kind id.0 size stores q b
 takes_wanted store kind id size stores q b (same, right, held) =
-    (same, record { named = right.named; sized = right.sized }, subst (λ (p : List ℕ). SomeHolds store.holds stores p b) same held)
+    (same, record { named = right.named; sized = right.sized }, subst (λ (p : List ℕ). SomeHolds store.members stores p b) same held)

@@ -1,48 +1,17 @@
 -- What a cache gives as chunks are added to it.
-use Rattle.std.proofs.Common.{◌≡◌, ◌⊎◌, ◌++◌, ℕ, ◌<◌, ◌≤◌, suc, List, [], ◌∷◌, length, Option, Some, None, IsSome, IfSome, is_some, true, refl, sym, ap, ◌∙◌, subst, inl, inr, arith}
+use Rattle.std.proofs.Common.{◌≡◌, ◌⊎◌, ◌++◌, ℕ, ◌<◌, ◌≤◌, List, [], ◌∷◌, Option, Some, None, IsSome, IfSome, is_some, true, refl, sym, ap, ◌∙◌, subst, inl, inr, arith}
 use Rattle.std.proofs.lemmas.Bool.{true≢false}
 use Rattle.std.proofs.lemmas.Option.{none-some, same_Some}
-use Rattle.std.specs.List.{Any}
 use Rattle.std.specs.Option.{option_map}
 use Rattle.cache_store.proofs.Stocked.{gave_or_takes, gives_still, stocks_on, stocks_same, stocks_weaker}
 use Rattle.cache_store.specs.Giving.{SomeGives}
 use Rattle.cache_store.specs.Shelves.{Shelf, held_on}
-use Rattle.chunk_sources.proofs.Lacking.{any_cons}
 use Rattle.chunk_sources.specs.Caches.{Stocked, cache_faults, cached_in}
+use Rattle.chunk_store.proofs.Members.{any_cons, any_here, any_left, any_part, any_right}
 use Rattle.chunk_store.specs.Folders.{chunks}
 use Rattle.chunk_store.specs.Giving.{GivesChunk, IsChunk}
 use Rattle.chunk_store.specs.declared.id.DigestKind.{DigestKind}
 use Rattle.dsy_base.specs.Maps.{Map}
-
--- ---- of two lists
-
-module _ {X : Type 0} (P : X → Type 0) where
-  any_here : (x : X) (xs : List X) → P x → Any P (x ∷ xs)
-  any_here x xs p = (0, x, omega arith, refl, p)
-
-  any_next : (x : X) (xs : List X) → Any P xs → Any P (x ∷ xs)
-  any_next x xs rest = let less : rest.0 < length xs = rest.2 in (suc rest.0, rest.1, omega arith, rest.3, rest.4)
-
-  any_left : (xs ys : List X) → Any P xs → Any P (xs ++ ys)
-  any_left [] ys any = let less : any.0 < 0 = any.2 in absurd (omega (arith, less))
-  any_left (x ∷ xs) ys any = elim (any_cons P x xs any) [
-    | inl here ↦ any_here x (xs ++ ys) here
-    | inr later ↦ any_next x (xs ++ ys) (any_left xs ys later)
-  ]
-
-  any_right : (xs ys : List X) → Any P ys → Any P (xs ++ ys)
-  any_right [] ys any = any
-  any_right (x ∷ xs) ys any = any_next x (xs ++ ys) (any_right xs ys any)
-
-  any_part : (xs ys : List X) → Any P (xs ++ ys) → Any P xs ⊎ Any P ys
-  any_part [] ys any = inr any
-  any_part (x ∷ xs) ys any = elim (any_cons P x (xs ++ ys) any) [
-    | inl here ↦ inl (any_here x xs here)
-    | inr later ↦ elim (any_part xs ys later) [
-      | inl first ↦ inl (any_next x xs first)
-      | inr second ↦ inr second
-    ]
-  ]
 
 module _ (kind : DigestKind) (id : List ℕ) (size : ℕ) where
   abbrev Chunk : Map (List ℕ) → Type 0

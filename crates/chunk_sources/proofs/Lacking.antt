@@ -1,25 +1,21 @@
 -- What can't be where nothing fails: that a source which gives a chunk was passed.
-use Rattle.std.proofs.Common.{◌≡◌, ◌≢◌, ℕ, zero, suc, List, [], ◌∷◌, length, Some, sym, ap, ◌∙◌, subst, inl, inr, ◌⊎◌, arith, slice_index, refl, Option}
+use Rattle.std.proofs.Common.{◌≡◌, ◌≢◌, ℕ, zero, suc, List, [], ◌∷◌, Some, sym, subst, inl, inr, ◌⊎◌, arith, slice_index, refl, Option, None, IfSome}
 use Rattle.std.proofs.lemmas.List.Elements.{All-weaker}
-use Rattle.std.proofs.lemmas.Option.{none-some, same_Some}
 use Rattle.std.specs.List.{All, Any}
 use Rattle.cache_store.specs.Giving.{SomeGives}
 use Rattle.chunk_sources.specs.Losses.{chunk_of}
 use Rattle.chunk_sources.specs.Sources.{HeldAt, SeedsFailed, SeedsGive}
+use Rattle.chunk_store.proofs.Members.{any_so}
 use Rattle.chunk_store.specs.Giving.{GivesChunk}
-use Rattle.chunk_store.specs.Digests.{digest_of}
+use Rattle.chunk_store.specs.Members.{AllOrNone, GroupsAgree, told_together}
 use Rattle.chunk_store.specs.declared.id.ChunkId.{ChunkId}
 use Rattle.chunk_store.specs.declared.id.DigestKind.{DigestKind}
-use Rattle.chunk_store.specs.declared.shows.Shows.{Shows}
-use Rattle.chunk_store.specs.declared.shows.Shows.TheVariants as shows
 use Rattle.dsy_base.specs.Bytes.{Held}
 use Rattle.dsy_base.specs.Counts.{Quiet, Rose}
 use Rattle.dsy_base.specs.Maps.{Map}
 use Rattle.extract_plan.specs.declared.seed.SeedPlace.{SeedPlace}
 use Rattle.store_chain.specs.Faults.{EachQuiet}
-use Rattle.store_chain.specs.Giving.{Gives, HoldsElse, HoldsNone, LacksAll}
-use Rattle.store_chain.specs.Lists.{FirstAt}
-use Rattle.store_chain.specs.Queries.{ShowsElse}
+use Rattle.store_chain.specs.Giving.{Gives, LacksTogether, NoneGives}
 use Rattle.store_chain.specs.declared.refused.Refused.{Refused}
 use Rattle.store_chain.specs.declared.refused.Refused.TheVariants as refused
 
@@ -32,22 +28,6 @@ module _ {X : Type 0} (Q : X → Type 0) where
   pub none_all : (xs : List X) → All (λ x. Q x → ⊥) xs → Any Q xs → ⊥
   none_all xs none (k, x, inside, at, q) = none k x inside (subst Q (sym at) q)
 
-  pub any_cons : (x : X) (xs : List X) → Any Q (x ∷ xs) → Q x ⊎ Any Q xs
-  any_cons x xs (zero, y, inside, at, q) = inl (subst Q (sym at) q)
-  any_cons x xs (suc k, y, inside, at, q) = inr (k, y, omega (arith, inside), at, q)
-
-  pub none_first : (B A C : X → Type 0) → ((x : X) → B x → Q x → ⊥) → ((x : X) → A x → Q x → ⊥) → ((x : X) → C x → Q x → ⊥)
-      → (n : ℕ) (xs : List X) → FirstAt B A C n xs → Any Q xs → ⊥
-  none_first B A C b a c n [] first any = absurd first
-  none_first B A C b a c zero (x ∷ xs) first any = elim (any_cons x xs any) [
-    | inl q ↦ a x first.0 q
-    | inr later ↦ none_all xs (All-weaker C (λ y. Q y → ⊥) c xs first.1) later
-  ]
-  none_first B A C b a c (suc n) (x ∷ xs) first any = elim (any_cons x xs any) [
-    | inl q ↦ b x first.0 q
-    | inr later ↦ none_first B A C b a c n xs first.1 later
-  ]
-
 -- ---- seeds
 
 pub seeds_never : (views : List (Option Held)) (places : List SeedPlace) (id : List ℕ) (old new : List ℕ) → EachQuiet old new
@@ -59,6 +39,13 @@ seeds_never views places id old new quiet failed gives =
     gives
 
 -- ---- stores
+
+-- those who agree on P agree on what holds just where P does
+agree_same : (P Q : Map (List ℕ) → Type 0) → ((m : Map (List ℕ)) → P m → Q m) → ((m : Map (List ℕ)) → Q m → P m) → (groups : List (Option (List (Map (List ℕ))))) → GroupsAgree P groups → GroupsAgree Q groups
+agree_same P Q to back groups agree = All-weaker (λ g. IfSome g (AllOrNone P)) (λ g. IfSome g (AllOrNone Q)) alike groups agree where
+  alike : (g : Option (List (Map (List ℕ)))) → IfSome g (AllOrNone P) → IfSome g (AllOrNone Q)
+  alike None h = tt
+  alike (Some ms) h = λ any. All-weaker P Q to ms (h (any_so Q P back ms any))
 
 -- an answer that tells of the stores
 abbrev pub Tells : Refused → Type 0
@@ -77,37 +64,33 @@ module _ (kind : DigestKind) (id : ChunkId) (size : ℕ) where
   abbrev Chunk : Map (List ℕ) → Type 0
   Chunk m = GivesChunk kind id.0 size (m id.0)
 
-  none_held : (m : Map (List ℕ)) → HoldsNone (chunk_of kind id size) m → Chunk m → ⊥
-  none_held m none (b, held, is) = none-some b (sym none ∙ held)
-
-  else_shown : (b : List ℕ) (x : Shows) → ShowsElse (chunk_of kind id size) b x → GivesChunk kind id.0 size (Some b) → ⊥
-  else_shown b shows.Longer more (e, held, is) = let same : b ≡ e = same_Some b e held in omega (arith, more, ap (λ xs. length xs) same, is.sized)
-  else_shown b (shows.Digest x) shown (e, held, is) =
-      let same : b ≡ e = same_Some b e held in
-      shown.2 (shown.1 ∙ subst (λ (y : List ℕ). digest_of kind y ≡ id.0) (sym same) is.named)
-  else_shown b (shows.Length n) shown (e, held, is) =
-      let same : b ≡ e = same_Some b e held in
-      shown.3 (shown.2 ∙ ap (λ xs. length xs) same ∙ is.sized)
-
-  else_held : (x : Shows) (m : Map (List ℕ)) → HoldsElse (chunk_of kind id size) x m → Chunk m → ⊥
-  else_held x m (b, held, shown) gives = else_shown b x shown (subst (GivesChunk kind id.0 size) held gives)
+  given : (m : Map (List ℕ)) → Chunk m → Gives (chunk_of kind id size) m
+  given m (b, held, is) = (b, held, record { named = is.named; sized = is.sized; fits = omega (arith, is.sized) })
 
   wanted : (m : Map (List ℕ)) → (Gives (chunk_of kind id size) m → ⊥) → Chunk m → ⊥
-  wanted m never (b, held, is) = never (b, held, record { named = is.named; sized = is.sized; fits = omega (arith, is.sized) })
+  wanted m never chunk = never (given m chunk)
 
-  pub stores_never : (maps : List (Map (List ℕ))) (r : Refused) → Tells r → ((s : ℕ) → r ≡ refused.StoreFault s → ⊥)
-      → LacksAll (chunk_of kind id size) maps r → SomeGives kind id.0 size maps → ⊥
-  stores_never maps refused.Missing tells sound lacks gives = none_all Chunk maps (All-weaker (HoldsNone (chunk_of kind id size)) (λ m. Chunk m → ⊥) none_held maps lacks) gives
-  stores_never maps (refused.Damaged s x) tells sound lacks gives =
-      none_first Chunk (HoldsNone (chunk_of kind id size)) (HoldsElse (chunk_of kind id size) x) (λ m. Gives (chunk_of kind id size) m → ⊥)
-      none_held (else_held x) wanted s maps lacks gives
-  stores_never maps (refused.StoreFault s) tells sound lacks gives = sound s refl
-  stores_never maps refused.Memory tells sound lacks gives = tells
+  gives : (m : Map (List ℕ)) → Gives (chunk_of kind id size) m → Chunk m
+  gives m (b, held, is) = (b, held, record { named = is.named; sized = is.sized })
+
+  never_any : (groups : List (Option (List (Map (List ℕ))))) (maps : List (Map (List ℕ))) → told_together groups ≡ Some maps → GroupsAgree Chunk groups
+      → NoneGives (chunk_of kind id size) groups → SomeGives kind id.0 size maps → ⊥
+  never_any groups maps told agree none some =
+      none_all Chunk maps (All-weaker (λ m. Gives (chunk_of kind id size) m → ⊥) (λ m. Chunk m → ⊥) wanted maps
+      (none maps told (agree_same Chunk (Gives (chunk_of kind id size)) given gives groups agree))) some
+
+  -- where those who answer agree
+  pub stores_never : (groups : List (Option (List (Map (List ℕ))))) (maps : List (Map (List ℕ))) → told_together groups ≡ Some maps → GroupsAgree Chunk groups
+      → (r : Refused) → Tells r → ((s : ℕ) → r ≡ refused.StoreFault s → ⊥) → LacksTogether (chunk_of kind id size) groups r → SomeGives kind id.0 size maps → ⊥
+  stores_never groups maps told agree refused.Missing tells sound lacks some = never_any groups maps told agree lacks some
+  stores_never groups maps told agree (refused.Damaged s x) tells sound lacks some = never_any groups maps told agree lacks some
+  stores_never groups maps told agree (refused.StoreFault s) tells sound lacks some = sound s refl
+  stores_never groups maps told agree refused.Memory tells sound lacks some = tells
 
   -- quiet stores of which one gives it had no memory
-  pub lacked_memory : (maps : List (Map (List ℕ))) (r : Refused) → ((s : ℕ) → r ≡ refused.StoreFault s → ⊥) → LacksAll (chunk_of kind id size) maps r
-      → SomeGives kind id.0 size maps → r ≡ refused.Memory
-  lacked_memory maps refused.Missing sound lacks gives = absurd (stores_never maps refused.Missing tt sound lacks gives)
-  lacked_memory maps (refused.Damaged s x) sound lacks gives = absurd (stores_never maps (refused.Damaged s x) tt sound lacks gives)
-  lacked_memory maps (refused.StoreFault s) sound lacks gives = absurd (sound s refl)
-  lacked_memory maps refused.Memory sound lacks gives = refl
+  pub lacked_memory : (groups : List (Option (List (Map (List ℕ))))) (maps : List (Map (List ℕ))) → told_together groups ≡ Some maps → GroupsAgree Chunk groups
+      → (r : Refused) → ((s : ℕ) → r ≡ refused.StoreFault s → ⊥) → LacksTogether (chunk_of kind id size) groups r → SomeGives kind id.0 size maps → r ≡ refused.Memory
+  lacked_memory groups maps told agree refused.Missing sound lacks some = absurd (stores_never groups maps told agree refused.Missing tt sound lacks some)
+  lacked_memory groups maps told agree (refused.Damaged s x) sound lacks some = absurd (stores_never groups maps told agree (refused.Damaged s x) tt sound lacks some)
+  lacked_memory groups maps told agree (refused.StoreFault s) sound lacks some = absurd (sound s refl)
+  lacked_memory groups maps told agree refused.Memory sound lacks some = refl

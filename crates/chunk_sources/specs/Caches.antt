@@ -86,7 +86,7 @@ Stocked Takes (Some s) (Some t) = Stocks Takes s t
 
 -- what is added for a chunk of this id and size: that chunk, which some store holds
 abbrev pub TakesChunk : {S : Type 0} → StoreWords S → DigestKind → List ℕ → ℕ → List S → List ℕ → List ℕ → Type 0
-TakesChunk store kind id size stores q b = (q ≡ id) × IsChunk kind id size b × SomeHolds store.holds stores id b
+TakesChunk store kind id size stores q b = (q ≡ id) × IsChunk kind id size b × SomeHolds store.members stores id b
 
 -- what is added for these wants
 abbrev pub TakesWants : {S : Type 0} → StoreWords S → Listing → Deal → (ℕ → Type 0) → List S → List ℕ → List ℕ → Type 0
@@ -120,4 +120,4 @@ pub record CacheGives {S : Type 0} (store : StoreWords S) (l : Listing) (stores 
   pub gives : IsSomeAnd (cached_in old) (SomeGives (kind_of l) id size)
   pub sound : Quiet (cache_faults old) (cache_faults new)
   pub one_size : (n : ℕ) (b : List ℕ) → IsListedAs l id n → IsChunk (kind_of l) id n b
-      → SomeHolds store.holds stores id b → n ≡ size
+      → SomeHolds store.members stores id b → n ≡ size

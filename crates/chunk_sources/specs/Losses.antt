@@ -7,6 +7,7 @@ use Rattle.chunk_sources.specs.Sources.{SeedsFailed, SeedsGive, Sources, Telling
 use Rattle.chunk_sources.specs.Wants.{IsAmong, Wanted}
 use Rattle.chunk_store.specs.declared.id.ChunkId.{ChunkId}
 use Rattle.chunk_store.specs.declared.id.DigestKind.{DigestKind}
+use Rattle.chunk_store.specs.Members.{maps_of}
 use Rattle.chunk_store.specs.declared.store.Store.{Ghosts as StoreWords}
 use Rattle.dsy_base.specs.Bytes.{Held}
 use Rattle.dsy_base.specs.Counts.{Rose}
@@ -15,7 +16,7 @@ use Rattle.dsy_base.specs.declared.view.View.{Ghosts as ViewWords}
 use Rattle.range_survey.specs.Fates.{settled}
 use Rattle.range_survey.specs.declared.fate.Fate.{Fate}
 use Rattle.store_chain.specs.Chains.{AsksOnce}
-use Rattle.store_chain.specs.Giving.{LacksAll}
+use Rattle.store_chain.specs.Giving.{LacksAll, LacksTogether}
 use Rattle.store_chain.specs.Refusals.{Refuses}
 use Rattle.store_chain.specs.Queries.{query_of}
 use Rattle.store_chain.specs.declared.refused.Refused.{Refused}
@@ -47,13 +48,15 @@ Had fates q views maps = ((j : ℕ) × IsAmong q.entries j × (settled fates j �
 -- so it came where seeds, cache and stores tell
 abbrev pub HadOver : {S V : Type 0} → StoreWords S → ViewWords V → List Fate → Wanted → Sources S V → Type 0
 HadOver store view fates q s = Telling view.tells (views_of view s.seeds) → (cached maps : List (Map (List ℕ)))
-    → given_maps s.cache ≡ Some cached → map store.holds s.chain.stores ≡ map Some maps
+    → given_maps s.cache ≡ Some cached → maps_of store.members s.chain.stores ≡ Some maps
     → Had fates q (views_of view s.seeds) (cached ++ maps)
 
--- the stores refused what is wanted, answered so, and lack it so if they tell what they hold
+-- the stores refused what is wanted, answered so, and lack it so if they tell what they hold, or if their members tell
+-- it and agree
 pub record RefusedBy {S : Type 0} (store : StoreWords S) (w : Query) (old new : List S) (r : Refused) : Type 0 where
   pub told : Refuses store.said store.faults store.may_lack_memory w old new r
   pub lacks : (maps : List (Map (List ℕ))) → map store.holds old ≡ map Some maps → LacksAll w maps r
+  pub together : LacksTogether w (map store.members old) r
   pub cause : (s : ℕ) → r ≡ refused.StoreFault s
       → Rose (slice_index (map store.faults old) s) (slice_index (map store.faults new) s)
 

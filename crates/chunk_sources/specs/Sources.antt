@@ -5,6 +5,9 @@ use Rattle.std.specs.List.{All, Any}
 use Rattle.cache_store.specs.Shelves.{Shelf}
 use Rattle.chunk_sources.specs.Caches.{cache_faults, cached_in}
 use Rattle.chunk_store.specs.Digests.{digest_of}
+use Rattle.chunk_store.specs.Giving.{GivesChunk}
+use Rattle.chunk_store.specs.Members.{GroupsAgree, maps_of}
+use Rattle.chunk_store.specs.declared.id.DigestKind.{DigestKind}
 use Rattle.chunk_store.specs.declared.store.Store.{Ghosts as StoreWords}
 use Rattle.dsy_base.specs.Bytes.{Held}
 use Rattle.dsy_base.specs.Counts.{Quiet, Rose}
@@ -62,14 +65,24 @@ pub record Sources (S V : Type 0) : Type 0 where
 abbrev pub sources : {S V : Type 0} → ℕ → List (Seed V) → Option Shelf → Chained S → Sources S V
 sources faults seeds cache chain = record { faults = faults; seeds = seeds; cache = cache; chain = chain }
 
--- nothing of it fails: the target, the seeds, the cache and the stores, which hold these maps, are quiet, and the
--- seeds' views tell, where there are any
-pub record SourcesQuiet {S V : Type 0} (store : StoreWords S) (view : ViewWords V) (old new : Sources S V)
-    (cached maps : List (Map (List ℕ))) : Type 0 where
+-- if one member of a store gives the chunk of this id and size, all members of that store do
+abbrev pub Agree : {S : Type 0} → StoreWords S → DigestKind → List ℕ → ℕ → List S → Type 0
+Agree store kind id size stores = GroupsAgree (λ m. GivesChunk kind id size (m id)) (map store.members stores)
+
+-- this id and this size
+abbrev pub IsThis : List ℕ → ℕ → List ℕ → ℕ → Type 0
+IsThis id size q n = (q ≡ id) × (n ≡ size)
+
+-- nothing of it fails: the target, the seeds, the cache and the stores, whose members hold these maps, are quiet, and
+-- the seeds' views tell, where there are any. The members of a store agree on each chunk of this kind, and of such an
+-- id and size
+pub record SourcesQuiet {S V : Type 0} (store : StoreWords S) (view : ViewWords V) (kind : DigestKind)
+    (Among : List ℕ → ℕ → Type 0) (old new : Sources S V) (cached maps : List (Map (List ℕ))) : Type 0 where
   pub target : Quiet old.faults new.faults
   pub telling : Telling view.tells (views_of view old.seeds)
   pub seeds : EachQuiet (counts_of view old.seeds) (counts_of view new.seeds)
   pub told_cache : cached_in old.cache ≡ Some cached
   pub cache : Quiet (cache_faults old.cache) (cache_faults new.cache)
-  pub told : map store.holds old.chain.stores ≡ map Some maps
+  pub told : maps_of store.members old.chain.stores ≡ Some maps
+  pub agree : (id : List ℕ) (size : ℕ) → Among id size → Agree store kind id size old.chain.stores
   pub stores : EachQuiet (map store.faults old.chain.stores) (map store.faults new.chain.stores)

@@ -9,10 +9,11 @@ ghost use Rattle.chunk_sources.specs.Caches.{OthersAddOnly, CacheLacks, IfShared
 ghost use Rattle.chunk_sources.specs.Caches.{IsAlone, Stocked, TakesChunk, given_maps};
 ghost use Rattle.chunk_sources.specs.Economy.{AnsweredAs, ObtainedBy, as_upstream, source_among};
 ghost use Rattle.chunk_sources.specs.Losses.{AskedLast, Had, MayLack, RefusedBy, chunk_of};
-ghost use Rattle.chunk_sources.specs.Sources.{KeepsSeeds, SourcesQuiet, Telling, sources, views_of};
+ghost use Rattle.chunk_sources.specs.Sources.{IsThis, KeepsSeeds, SourcesQuiet, Telling, sources, views_of};
 ghost use Rattle.chunk_sources.specs.Wants.{AllOf, sought_chunk};
 ghost use Rattle.chunk_store.specs.Asks.{Get};
 ghost use Rattle.chunk_store.specs.Digests.{digest_of};
+ghost use Rattle.chunk_store.specs.Members.{maps_of};
 ghost use Rattle.dsy_base.specs.Maps.{Map};
 ghost use Rattle.extract_plan.specs.Places.{PlacesFit};
 ghost use Rattle.range_survey.specs.Fates.{is_made, is_settled, settled};
@@ -62,7 +63,7 @@ pub fn obtain<E: Ledger, S: Store, V: View, C: Cache>(
     ensures origin { IfOk result (λ f. is_settled f ≡ true) }
     ensures made { IfOk result (λ f. is_made f ≡ true) }
     ensures had { Telling V.tells (views_of V.View seeds.old) → (cached maps : List (Map (List ℕ))) →
-        given_maps (seen_in C.Cache cache.old) ≡ Some cached → map S.holds chain.old.stores ≡ map Some maps →
+        given_maps (seen_in C.Cache cache.old) ≡ Some cached → maps_of S.members chain.old.stores ≡ Some maps →
         OnOk result (Had (E.fates ledger.old) (sought_chunk (kind_of E.run.listing) sought.now (length chunk.old))
         (views_of V.View seeds.old) (cached ++ maps)) }
     ensures refused { IfErr result (λ r. r ≢ Refused.Memory → RefusedBy S.Store
@@ -83,7 +84,7 @@ pub fn obtain<E: Ledger, S: Store, V: View, C: Cache>(
 
     // Where nothing fails, and nobody else adds to the cache.
     ensures exactly { IsAlone (seen_in C.Cache cache.old) → (cached maps : List (Map (List ℕ))) →
-        SourcesQuiet S.Store V.View
+        SourcesQuiet S.Store V.View (kind_of E.run.listing) (IsThis sought.now.id.0 (length chunk.old))
         (sources (E.faults ledger.old) seeds.old (seen_in C.Cache cache.old) chain.old)
         (sources (E.faults ledger.new) seeds.new (seen_in C.Cache cache.new) chain.new) cached maps →
         ObtainedBy (source_among (settled (E.fates ledger.old))
@@ -92,6 +93,7 @@ pub fn obtain<E: Ledger, S: Store, V: View, C: Cache>(
     // Where nothing fails, whoever adds to the cache: which of cache and stores gave the chunk isn't said.
     ensures shared { (cached maps : List (Map (List ℕ))) → OthersAddOnly (kind_of E.run.listing) sought.now.id.0
         (length chunk.old) (seen_in C.Cache cache.old) cached maps → SourcesQuiet S.Store V.View
+        (kind_of E.run.listing) (IsThis sought.now.id.0 (length chunk.old))
         (sources (E.faults ledger.old) seeds.old (seen_in C.Cache cache.old) chain.old)
         (sources (E.faults ledger.new) seeds.new (seen_in C.Cache cache.new) chain.new) cached maps →
         AnsweredAs as_upstream (source_among (settled (E.fates ledger.old))

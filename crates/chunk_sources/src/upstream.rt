@@ -11,7 +11,9 @@ ghost use Rattle.chunk_sources.specs.Caches.{cache_faults, cached_in, given_maps
 ghost use Rattle.chunk_sources.specs.Economy.{AnsweredAs, ObtainedBy, as_upstream, source_behind};
 ghost use Rattle.chunk_sources.specs.Losses.{MayLack, RefusedBy, chunk_of};
 ghost use Rattle.chunk_store.specs.Asks.{Get};
+ghost use Rattle.chunk_sources.specs.Sources.{Agree};
 ghost use Rattle.chunk_store.specs.Digests.{digest_of};
+ghost use Rattle.chunk_store.specs.Members.{maps_of};
 ghost use Rattle.dsy_base.specs.Counts.{Quiet};
 ghost use Rattle.dsy_base.specs.Maps.{Map};
 ghost use Rattle.range_survey.specs.Fates.{is_made, is_settled};
@@ -45,7 +47,7 @@ fn from_cache<S: Store, C: Cache>(
     ensures origin { IfOk result (λ f. is_settled f ≡ true) }
     ensures made { IfOk result (λ f. is_made f ≡ true) }
     ensures had { (cached maps : List (Map (List ℕ))) → given_maps (Some (C.shelf cache.old)) ≡ Some cached →
-        map S.holds chain.old.stores ≡ map Some maps →
+        maps_of S.members chain.old.stores ≡ Some maps →
         OnOk result (SomeGives chain.old.kind id.now.0 (length chunk.old) (cached ++ maps)) }
     ensures refused { IfErr result (λ r. r ≢ Refused.Memory → RefusedBy S.Store
         (chunk_of chain.old.kind id.now (length chunk.old)) chain.old.stores chain.new.stores r) }
@@ -62,14 +64,16 @@ fn from_cache<S: Store, C: Cache>(
     // Where nothing fails, and nobody else adds to it.
     ensures exactly { IsAlone (Some (C.shelf cache.old)) → (cached maps : List (Map (List ℕ))) →
         cached_in (Some (C.shelf cache.old)) ≡ Some cached → Quiet (cache_faults (Some (C.shelf cache.old)))
-        (cache_faults (Some (C.shelf cache.new))) → map S.holds chain.old.stores ≡ map Some maps →
+        (cache_faults (Some (C.shelf cache.new))) → maps_of S.members chain.old.stores ≡ Some maps →
+        Agree S.Store chain.old.kind id.now.0 (length chunk.old) chain.old.stores →
         EachQuiet (map S.faults chain.old.stores) (map S.faults chain.new.stores) → ObtainedBy
         (source_behind chain.old.kind id.now.0 (length chunk.old) cached maps) chain.old chain.new result }
     // Where nothing fails, whoever adds to it.
     ensures shared { (cached maps : List (Map (List ℕ))) → OthersAddOnly chain.old.kind id.now.0 (length chunk.old)
         (Some (C.shelf cache.old)) cached maps → cached_in (Some (C.shelf cache.old)) ≡ Some cached →
         Quiet (cache_faults (Some (C.shelf cache.old))) (cache_faults (Some (C.shelf cache.new))) →
-        map S.holds chain.old.stores ≡ map Some maps →
+        maps_of S.members chain.old.stores ≡ Some maps →
+        Agree S.Store chain.old.kind id.now.0 (length chunk.old) chain.old.stores →
         EachQuiet (map S.faults chain.old.stores) (map S.faults chain.new.stores) → AnsweredAs as_upstream
         (source_behind chain.old.kind id.now.0 (length chunk.old) cached maps) result }
 
@@ -106,7 +110,7 @@ pub(crate) fn from_upstream<S: Store, C: Cache>(
     ensures origin { IfOk result (λ f. is_settled f ≡ true) }
     ensures made { IfOk result (λ f. is_made f ≡ true) }
     ensures had { (cached maps : List (Map (List ℕ))) → given_maps (seen_in C.Cache cache.old) ≡ Some
-        cached → map S.holds chain.old.stores ≡ map Some maps →
+        cached → maps_of S.members chain.old.stores ≡ Some maps →
         OnOk result (SomeGives chain.old.kind id.now.0 (length chunk.old) (cached ++ maps)) }
     ensures refused { IfErr result (λ r. r ≢ Refused.Memory → RefusedBy S.Store
         (chunk_of chain.old.kind id.now (length chunk.old)) chain.old.stores chain.new.stores r) }
@@ -124,14 +128,16 @@ pub(crate) fn from_upstream<S: Store, C: Cache>(
     // Where nothing fails, and nobody else adds to the cache.
     ensures exactly { IsAlone (seen_in C.Cache cache.old) → (cached maps : List (Map (List ℕ))) →
         cached_in (seen_in C.Cache cache.old) ≡ Some cached → Quiet (cache_faults (seen_in C.Cache cache.old))
-        (cache_faults (seen_in C.Cache cache.new)) → map S.holds chain.old.stores ≡ map Some maps →
+        (cache_faults (seen_in C.Cache cache.new)) → maps_of S.members chain.old.stores ≡ Some maps →
+        Agree S.Store chain.old.kind id.now.0 (length chunk.old) chain.old.stores →
         EachQuiet (map S.faults chain.old.stores) (map S.faults chain.new.stores) →
         ObtainedBy (source_behind chain.old.kind id.now.0 (length chunk.old) cached maps) chain.old chain.new result }
     // Where nothing fails, whoever adds to the cache.
     ensures shared { (cached maps : List (Map (List ℕ))) → OthersAddOnly chain.old.kind id.now.0 (length chunk.old)
         (seen_in C.Cache cache.old) cached maps → cached_in (seen_in C.Cache cache.old) ≡ Some cached →
         Quiet (cache_faults (seen_in C.Cache cache.old)) (cache_faults (seen_in C.Cache cache.new)) →
-        map S.holds chain.old.stores ≡ map Some maps →
+        maps_of S.members chain.old.stores ≡ Some maps →
+        Agree S.Store chain.old.kind id.now.0 (length chunk.old) chain.old.stores →
         EachQuiet (map S.faults chain.old.stores) (map S.faults chain.new.stores) → AnsweredAs as_upstream
         (source_behind chain.old.kind id.now.0 (length chunk.old) cached maps) result }
 

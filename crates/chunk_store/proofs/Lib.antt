@@ -3,3 +3,4 @@ pub mod Paths
 pub mod Said
 pub mod Sends
 pub mod Chunks
+pub mod Members

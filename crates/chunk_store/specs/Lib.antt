@@ -3,6 +3,7 @@ pub mod Kinds
 pub mod Digests
 pub mod Paths
 pub mod Said
+pub mod Members
 pub mod Asks
 pub mod Gets
 pub mod Giving

@@ -1,5 +1,8 @@
 -- What a store has said of its chunks.
-use Rattle.std.specs.Prelude.{◌≡◌, ◌≢◌, ◌<◌, ◌≤◌, ◌+◌, ◌↔◌, ℕ, List, length, Option, Some, None, IfSome}
+use Rattle.std.specs.Prelude.{◌≡◌, ◌≢◌, ◌<◌, ◌≤◌, ◌+◌, ◌↔◌, ℕ, List, [], ◌∷◌, length, Option, Some, None, IfSome, refl}
+use Rattle.std.proofs.Common.{arith}
+use Rattle.std.specs.Option.{option_map}
+use Rattle.std.specs.List.{Any}
 use Rattle.dsy_base.specs.Maps.{Map}
 
 pub record Said : Type 1 where
@@ -26,6 +29,13 @@ pub record SaysMap (s : Said) (m : Map (List ℕ)) : Type 0 where
   pub longer : (id : List ℕ) (n : ℕ) → s.longer id n ↔ ((b : List ℕ) × (m id ≡ Some b) × (n < length b))
   pub taken : (id b : List ℕ) → s.taken id b ↔ (m id ≡ Some b)
 
+-- what was said is so of one of these maps: it doesn't hold what was denied, and holds what was shown
+pub record SaysAmong (s : Said) (maps : List (Map (List ℕ))) : Type 0 where
+  pub denied : (id : List ℕ) → s.denied id → Any (λ m. m id ≡ None) maps
+  pub shown : (id b : List ℕ) → s.shown id b → Any (λ m. m id ≡ Some b) maps
+  pub longer : (id : List ℕ) (n : ℕ) → s.longer id n
+      → Any (λ m. (b : List ℕ) × (m id ≡ Some b) × (n < length b)) maps
+
 -- the numbers of times asked, after one call for this id
 pub record AskedOnce (old new : List ℕ → ℕ) (id : List ℕ) : Type 0 where
   pub this : new id ≤ old id + 1
@@ -50,3 +60,31 @@ says_map (Some m) = record {
   longer = λ id n. (λ h. h, λ h. h);
   taken = λ id b. (λ h. h, λ h. h);
 }
+
+-- ---- a store that tells what it holds, and answers alone
+
+-- what a store holds, as a list of one map
+abbrev pub just_one : Option (Map (List ℕ)) → Option (List (Map (List ℕ)))
+just_one holds = option_map (λ m. m ∷ []) holds
+
+-- it is the only one that answers in its name
+pub answers_alone : (holds : Option (Map (List ℕ))) → IfSome holds (λ m. just_one holds ≡ Some (m ∷ []))
+answers_alone None = tt
+answers_alone (Some m) = refl
+
+only_one : {X : Type 0} (P : X → Type 0) (x : X) → P x → Any P (x ∷ [])
+only_one P x p = (0, x, omega arith, refl, p)
+
+-- what it has said is so of its map
+pub vouched_alone : (holds : Option (Map (List ℕ))) (said : Said) → IfSome holds (SaysMap said)
+    → IfSome (just_one holds) (SaysAmong said)
+vouched_alone None said says = tt
+vouched_alone (Some m) said says = record {
+  denied = λ id d. only_one (λ n. n id ≡ None) m ((says.denied id).0 d);
+  shown = λ id b d. only_one (λ n. n id ≡ Some b) m ((says.shown id b).0 d);
+  longer = λ id n d. only_one (λ x. (b : List ℕ) × (x id ≡ Some b) × (n < length b)) m ((says.longer id n).0 d);
+}
+
+-- what is said of a map is so of it
+pub vouched_map : (holds : Option (Map (List ℕ))) → IfSome (just_one holds) (SaysAmong (said_by holds))
+vouched_map holds = vouched_alone holds (said_by holds) (says_map holds)

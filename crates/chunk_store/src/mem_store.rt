@@ -69,9 +69,11 @@ fn set_bytes(
 impl Store for MemStore {
     ghost use Rattle.std.specs.Prelude.{Some, [], true, false, refl};
     ghost use Rattle.chunk_store.specs.MemStores.{bytes_by_id};
-    ghost use Rattle.chunk_store.specs.Said.{said_by, says_map};
+    ghost use Rattle.chunk_store.specs.Said.{just_one, said_by, says_map, vouched_map};
 
     ghost holds = { λ s. Some (bytes_by_id s.chunks) };
+
+    ghost members = { λ s. just_one (Some (bytes_by_id s.chunks)) };
 
     ghost said = { λ s. said_by (Some (bytes_by_id s.chunks)) };
 
@@ -101,6 +103,10 @@ impl Store for MemStore {
     fn has(&mut self, id: &ChunkId) -> Result<bool, IoFault> {
         Ok(self.chunks.contains_key(id))
     }
+
+    ghost alone = { λ _. refl };
+
+    ghost vouched = { λ s. vouched_map (Some (bytes_by_id s.chunks)) };
 
     ghost says = { λ s. says_map (Some (bytes_by_id s.chunks)) };
 

@@ -1,12 +1,12 @@
 //! Stores of chunks by their ids.
 
-ghost use Rattle.std.specs.Prelude.{◌≡◌, ◌≢◌, ℕ, Bool, true, false, IsTrue, List, ◌≤◌, Option, Some, None, IsSome};
-ghost use Rattle.std.specs.Prelude.{IfSome, IfOk, OnOk, OnErr, is_some, length, take};
+ghost use Rattle.std.specs.Prelude.{◌≡◌, ◌≢◌, ℕ, Bool, true, false, IsTrue, List, [], ◌∷◌, ◌≤◌, Option, Some, None};
+ghost use Rattle.std.specs.Prelude.{IsSome, IfSome, IfOk, OnOk, OnErr, is_some, length, take};
 ghost use Rattle.std.specs.Option.{option_map};
 ghost use Rattle.chunk_store.specs.Asks.{Ask, Get, Has, Put, Sends, Sent, sends_nothing};
 ghost use Rattle.chunk_store.specs.Folders.{KeepsOthers, chunks};
 ghost use Rattle.chunk_store.specs.Gets.{GetGives};
-ghost use Rattle.chunk_store.specs.Said.{Said, KeepsOf, SaysMap, AskedOnce};
+ghost use Rattle.chunk_store.specs.Said.{Said, KeepsOf, SaysAmong, SaysMap, AskedOnce};
 ghost use Rattle.dsy_base.specs.Counts.{CountsFaults};
 ghost use Rattle.dsy_base.specs.Maps.{Map, at_name};
 
@@ -28,6 +28,10 @@ pub enum GetFault {
 pub trait Store: Drop {
     /// What it holds under each id, where this store tells it. No call changes whether it does.
     ghost holds: { Self → Option (Map (List ℕ)) };
+
+    /// What each store holds that answers in its name, where all of them tell it: its own map alone, where this store
+    /// tells what it holds, or the maps of all stores of a group. No call changes it.
+    ghost members: { Self → Option (List (Map (List ℕ))) };
 
     /// The files of the folder that its chunks lie in, where it has one and tells them.
     ghost folder: { Self → Option (Map (List ℕ)) } = { λ _. None };
@@ -73,6 +77,7 @@ pub trait Store: Drop {
         ensures only { result ≡ Err GetFault.Memory → IsTrue may_lack_memory }
 
         ensures kept { holds self.new ≡ holds self.old }
+        ensures members { members self.new ≡ members self.old }
         ensures files { folder self.new ≡ folder self.old }
         ensures place { place self.new ≡ place self.old }
         ensures said { (q : List ℕ) → KeepsOf (said self.old) (said self.new) q }
@@ -88,6 +93,7 @@ pub trait Store: Drop {
         ensures only { result ≡ Err IoFault.Memory → IsTrue may_lack_memory }
 
         ensures kept { holds self.new ≡ holds self.old }
+        ensures members { members self.new ≡ members self.old }
         ensures files { folder self.new ≡ folder self.old }
         ensures place { place self.new ≡ place self.old }
         ensures said { (q : List ℕ) → KeepsOf (said self.old) (said self.new) q }
@@ -95,6 +101,12 @@ pub trait Store: Drop {
         ensures asks { asked self.new ≡ asked self.old }
         ensures queries { AskedOnce (queried self.old) (queried self.new) id.now.0 }
         ensures faults { CountsFaults IoFault.Failed IoFault.Memory (faults self.old) (faults self.new) result };
+
+    /// A store that tells what it holds is the only one that answers in its name.
+    ghost alone: { (s : Self) → IfSome (holds s) (λ m. members s ≡ Some (m ∷ [])) };
+
+    /// What it has said holds for one of the told maps of those that answer in its name.
+    ghost vouched: { (s : Self) → IfSome (members s) (SaysAmong (said s)) };
 
     /// A told map denies what it doesn't hold, and has shown and taken what it holds.
     ghost says: { (s : Self) → IfSome (holds s) (SaysMap (said s)) };

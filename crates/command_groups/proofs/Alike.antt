@@ -1,11 +1,11 @@
--- Groups that were opened for the same words from the same folders hold the same chunks.
+-- Groups that were opened for the same words from the same folders hold the same chunks, as do those who answer for them.
 use Rattle.std.proofs.Common.{◌≡◌, ◌∙◌, Bool, false, List, [], ◌∷◌, map, length, is_some, Option, Some, None, IfSome, IsTrue, refl, sym, ap, ℕ}
 use Rattle.std.specs.List.{All}
 use Rattle.std.specs.Option.{option_map}
 use Rattle.chunk_store.specs.Folders.{chunks}
-use Rattle.command_groups.proofs.Seen.{all_hold, held_by}
+use Rattle.command_groups.proofs.Seen.{all_hold, all_members, held_by, members_by}
 use Rattle.command_groups.proofs.Stand.{many_stores}
-use Rattle.command_groups.specs.Opened.{files_in, locations_in, told_chunks}
+use Rattle.command_groups.specs.Opened.{files_in, locations_in, told_chunks, told_members}
 use Rattle.command_steps.specs.AnyStores.{source_files}
 use Rattle.command_steps.specs.Sources.{location_files}
 use Rattle.command_steps.specs.declared.any_store.AnyStore.{AnyStore}
@@ -59,3 +59,10 @@ module _ {L D K : Type 0} (files : L → Option (Map (List ℕ))) (place : L →
       → All (λ g. g.active ≡ 0) xs → All (λ g. g.active ≡ 0) ys → map (told_chunks sure files) xs ≡ map (told_chunks sure files) ys
   hold_alike sure tells looks told seen folders tells_are names xs ys at there one two first next =
       all_hold sure files xs first ∙ ap (map (held_by sure)) (files_alike tells looks told seen folders tells_are names xs ys (at ∙ sym there) one two) ∙ sym (all_hold sure files ys next)
+
+  -- and those who answer for them
+  pub members_alike : (sure tells looks : Bool) → ((l : L) → is_some (files l) ≡ looks) → (IsTrue looks → IsTrue tells) → (folders : Option (Map (Map (List ℕ)))) → is_some folders ≡ tells → (names : List (List Location)) (xs ys : List (Grouped (AnyStore L D K)))
+      → map (locations_in place) xs ≡ names → map (locations_in place) ys ≡ names → IfSome folders (λ m. map (files_in files) xs ≡ map (map (location_files m)) names) → IfSome folders (λ m. map (files_in files) ys ≡ map (map (location_files m)) names)
+      → All (λ g. g.active ≡ 0) xs → All (λ g. g.active ≡ 0) ys → map (told_members sure files) xs ≡ map (told_members sure files) ys
+  members_alike sure tells looks told seen folders tells_are names xs ys at there one two first next =
+      all_members sure files xs first ∙ ap (map (members_by sure)) (files_alike tells looks told seen folders tells_are names xs ys (at ∙ sym there) one two) ∙ sym (all_members sure files ys next)

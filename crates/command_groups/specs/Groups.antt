@@ -1,10 +1,12 @@
 -- What words name as groups of stores. The stores of a group are meant to hold the same chunks.
 use Rattle.std.specs.Prelude.{◌++◌, ℕ, ◌≤◌, List, [], ◌∷◌, length, take, Option, Bool, ◌&&◌}
 use Rattle.std.specs.List.{All}
+use Rattle.chunk_store.specs.Members.{maps_of}
+use Rattle.chunk_store.specs.Said.{just_one}
 use Rattle.command_steps.specs.Sources.{location_files}
 use Rattle.command_words.specs.declared.command.Location.{Location}
 use Rattle.dsy_base.specs.Maps.{Map}
-use Rattle.store_group.specs.Groups.{all_tell, seen_of, steady_of}
+use Rattle.store_group.specs.Groups.{all_tell, told_or_all, seen_of, steady_of}
 
 -- the stores of all groups, in order
 abbrev pub stores_of : List (List Location) → List Location
@@ -22,7 +24,16 @@ pub record AreGroups (groups : List (List Location)) (retries : ℕ) : Type 0 wh
   pub few : length (stores_of groups) ≤ 16
   pub again : retries ≤ 16
 
+-- the files that one location tells, as a list of one
+abbrev pub listed_files : Map (Map (List ℕ)) → Location → Option (List (Map (List ℕ)))
+listed_files m s = just_one (location_files m s)
+
 -- the files that a group tells: those of its folder, where it is one folder; and those of the first, where all of its
 -- stores are folders and folders never fail, since then the first alone is asked
 abbrev pub group_files : (sure : Bool) → Map (Map (List ℕ)) → List Location → Option (Map (List ℕ))
 group_files sure m g = seen_of (location_files m) g (steady_of (sure && all_tell (location_files m) g) 0 g)
+
+-- the files of the members of a group: just those that it tells, or else those of all its folders, where each of its
+-- stores is one
+abbrev pub member_files : (sure : Bool) → Map (Map (List ℕ)) → List Location → Option (List (Map (List ℕ)))
+member_files sure m g = told_or_all (group_files sure m g) (maps_of (listed_files m) g)

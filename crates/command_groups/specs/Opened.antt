@@ -2,6 +2,7 @@
 -- dialer, and K that of its connections.
 use Rattle.std.specs.Prelude.{◌≡◌, ◌++◌, ℕ, ◌<◌, List, [], ◌∷◌, length, map, Option, IfSome, Bool, false}
 use Rattle.std.specs.List.{All, fold}
+use Rattle.chunk_store.specs.Said.{just_one}
 use Rattle.command_groups.specs.Groups.{stores_of}
 use Rattle.command_steps.specs.AnyStores.{IsGiven, IsUnused, chunks_in, location_in, source_faults, source_files}
 use Rattle.command_steps.specs.AnyStores.{with_those}
@@ -11,7 +12,7 @@ use Rattle.command_words.specs.declared.command.Location.{Location}
 use Rattle.dsy_base.specs.Links.{DialState, Traffic}
 use Rattle.dsy_base.specs.Maps.{Map}
 use Rattle.dsy_base.specs.declared.look.Look.{Ghosts as LookWords}
-use Rattle.store_group.specs.Groups.{CountsFailures, Grouped, group_folder, group_holds}
+use Rattle.store_group.specs.Groups.{CountsFailures, Grouped, group_folder, group_holds, group_members}
 
 -- the words that name the stores of a group
 abbrev pub locations_in : {L D K : Type 0} → (L → List ℕ) → Grouped (AnyStore L D K) → List Location
@@ -36,6 +37,11 @@ told_files sure files g = group_folder false sure (chunks_in files) (source_file
 abbrev pub told_chunks : {L D K : Type 0} → (sure : Bool) → (L → Option (Map (List ℕ))) → Grouped (AnyStore L D K)
     → Option (Map (List ℕ))
 told_chunks sure files g = group_holds false sure (chunks_in files) g
+
+-- the chunks of its members, where all of them tell
+abbrev pub told_members : {L D K : Type 0} → (sure : Bool) → (L → Option (Map (List ℕ))) → Grouped (AnyStore L D K)
+    → Option (List (Map (List ℕ)))
+told_members sure files g = group_members false sure (chunks_in files) (λ s. just_one (chunks_in files s)) g
 
 -- a group that was just made: its first store is active, none has failed, and a call that fails is made so often again
 pub record IsFresh {S : Type 0} (counted : S → ℕ) (again : ℕ) (g : Grouped S) : Type 0 where

@@ -21,12 +21,15 @@ pub enum AnyStore<L: Look, D: Dial> {
 impl<L: Look, D: Dial> Store for AnyStore<L, D> {
     ghost use Rattle.std.specs.Prelude.{false, true};
     ghost use Rattle.std.proofs.Common.{rules};
+    ghost use Rattle.chunk_store.specs.Said.{answers_alone, just_one, vouched_alone};
     ghost use Rattle.command_steps.specs.AnyStores.{chunks_in, source_files, place_in, source_faults, said_in};
     ghost use Rattle.command_steps.specs.AnyStores.{asked_in, lies_any, says_any, source_sent, steady_any};
     ghost use Rattle.command_steps.specs.AnyStores.{unasked_any};
     ghost use Rattle.http_wire.specs.declared.reply.Method.TheVariants as methods;
 
     ghost holds = { chunks_in L.files };
+
+    ghost members = { λ s. just_one (chunks_in L.files s) };
 
     ghost folder = { source_files L.files };
 
@@ -63,6 +66,10 @@ impl<L: Look, D: Dial> Store for AnyStore<L, D> {
             AnyStore::Http(store) => store.has(id),
         }
     }
+
+    ghost alone = { λ s. answers_alone (chunks_in L.files s) };
+
+    ghost vouched = { λ s. vouched_alone (chunks_in L.files s) _ (says_any L.files D.state s) };
 
     ghost says = { says_any L.files D.state };
 

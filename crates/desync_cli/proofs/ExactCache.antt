@@ -5,7 +5,7 @@ use Rattle.std.specs.List.{Any, Contains}
 use Rattle.std.specs.Option.{option_map}
 use Rattle.cache_store.specs.Giving.{GiveOneSize, SomeGives}
 use Rattle.caibx_codec.specs.Listing.{Listing, count_of, id_of, kind_of, size_of}
-use Rattle.chunk_sources.proofs.Lacking.{any_cons}
+use Rattle.chunk_store.proofs.Members.{any_cons}
 use Rattle.chunk_store.specs.Folders.{chunks}
 use Rattle.chunk_store.specs.Giving.{GivesChunk, IsChunk}
 use Rattle.chunk_store.specs.declared.id.ChunkId.{ChunkId}

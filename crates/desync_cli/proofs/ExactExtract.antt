@@ -8,10 +8,13 @@ use Rattle.cache_store.specs.Giving.{GiveOneSize}
 use Rattle.caibx_codec.specs.Listing.{Listing, count_of, image_length, kind_of, size_of}
 use Rattle.chunk_sources.specs.Caches.{IsListedAs}
 use Rattle.chunk_sources.specs.Losses.{chunk_of}
+use Rattle.chunk_store.proofs.Members.{agree_alone, told_alone}
 use Rattle.chunk_store.specs.Folders.{chunks}
-use Rattle.chunk_store.specs.Giving.{IsChunk}
+use Rattle.chunk_store.specs.Giving.{IsChunk, GivesChunk}
+use Rattle.chunk_store.specs.Members.{maps_of}
 use Rattle.chunk_store.specs.declared.id.ChunkId.{ChunkId}
 use Rattle.chunk_store.specs.declared.id.DigestKind.{DigestKind}
+use Rattle.command_groups.proofs.Seen.{alone_files}
 use Rattle.command_outcome.specs.declared.outcome.Outcome.{Outcome}
 use Rattle.command_outcome.specs.declared.outcome.Outcome.TheVariants as ends
 use Rattle.command_indexes.specs.Places.{is_file}
@@ -25,7 +28,7 @@ use Rattle.command_worlds.specs.Steps.{◌>>=◌, outcome_of}
 use Rattle.command_worlds.specs.Worlds.{DiskQuiet, FileRose, OnDisk, World, world}
 use Rattle.desync_cli.proofs.Climbs.{Climbs, NoneRose, climbs_on, filled_climbs, none_rose, self_climbs, wrote_climbs}
 use Rattle.desync_cli.proofs.ExactCache.{is_memory}
-use Rattle.command_groups.specs.Groups.{first_store, group_files, stores_of}
+use Rattle.command_groups.specs.Groups.{first_store, group_files, stores_of, member_files}
 use Rattle.desync_cli.proofs.Grouped.{AreTelling, none_lacking, tells_first}
 use Rattle.desync_cli.proofs.Readings.{EndsSo, IsAt, IsQuiet, any_cache_so, at_first, index_so, indexes_so, some_not, stores_so}
 use Rattle.desync_cli.specs.AtHand.{into}
@@ -36,7 +39,7 @@ use Rattle.dsy_base.specs.Disk.{Disk}
 use Rattle.dsy_base.specs.Links.{DialState}
 use Rattle.dsy_base.specs.Maps.{Map, at_name}
 use Rattle.extract_command.proofs.Wrote.{wrote_on}
-use Rattle.extract_command.specs.Extract.{AreFilled, Assembled, CacheFilled, CacheGrows, Cleared, Clearing, ExtractEnds, ExtractStores, FillsCache, HadFrom, ImageMade, Into, IsCounted, NeverFail, NotRenamed, OutMade, Renamed, Seeds, StopsLacking, Told, Undisturbed, base_of, beside, folder_of, in_place, temporary_out}
+use Rattle.extract_command.specs.Extract.{AreFilled, Assembled, CacheFilled, CacheGrows, Cleared, Clearing, ExtractEnds, ExtractStores, FillsCache, HadFrom, ImageMade, Into, IsCounted, NeverFail, NotRenamed, OutMade, Renamed, Seeds, StopsLacking, Told, Undisturbed, base_of, beside, folder_of, in_place, temporary_out, AgreeOnListed}
 use Rattle.store_chain.specs.declared.refused.Refused.{Refused}
 use Rattle.store_chain.specs.declared.refused.Refused.TheVariants as refused
 
@@ -69,6 +72,14 @@ module _ (x : Contents) (w v u : World) (at : IsAt x w u) (quiet : IsQuiet w v) 
   so_far : Climbs w.disk u.disk
   so_far = record { files = at.files; folders = at.folders }
 
+  -- each group answers alone, and agrees with itself
+  answering : maps_of (member_files stores.sure x.folders) stores.groups ≡ Some fs
+  answering = told_alone (group_files stores.sure x.folders) (member_files stores.sure x.folders) (alone_files stores.sure x.folders) stores.groups fs are
+
+  agreeing : AgreeOnListed x.folders stores l
+  agreeing id size listed = agree_alone (group_files stores.sure x.folders) (member_files stores.sure x.folders) (alone_files stores.sure x.folders)
+      (λ f. GivesChunk (kind_of l) id size (chunks f id)) stores.groups fs are
+
   -- what is said over files and folders that tell
   told_so : (e : Disk) (P : Map (List ℕ) → Map (List ℕ) → Map (Map (List ℕ)) → List (Map (List ℕ)) → Type 0) → is_some e.files ≡ is_some u.disk.files → Told u.disk e cache P → (a : Map (List ℕ)) × (e.files ≡ Some a) × P x.files a x.folders cs
   told_so e P tells h = go e.files refl (subst (λ f. is_some e.files ≡ is_some f) at.has.files tells)
@@ -85,8 +96,8 @@ module _ (x : Contents) (w v u : World) (at : IsAt x w u) (quiet : IsQuiet w v) 
 
   gains_so : (m : Map (Map (List ℕ))) → m ≡ x.folders → (f g : Map (List ℕ)) → CacheGrows l m stores f g → GainsListed (IsListedBy l) (map chunks fs) f g
   gains_so m same f g grows = record { held = held; strangers = grows.strangers } where
-    holds : map (group_files stores.sure m) stores.groups ≡ map Some fs
-    holds = subst (λ n. map (group_files stores.sure n) stores.groups ≡ map Some fs) (sym same) are
+    holds : maps_of (member_files stores.sure m) stores.groups ≡ Some fs
+    holds = subst (λ n. maps_of (member_files stores.sure n) stores.groups ≡ Some fs) (sym same) answering
 
     held : (id : List ℕ) → (chunks g id ≡ chunks f id) ⊎ ((b : List ℕ) × (chunks g id ≡ Some b) × ((kind : DigestKind) × (n : ℕ) × IsListedBy l kind id n × IsChunk kind id n b) × Any (λ m. m id ≡ Some b) (map chunks fs))
     held id = elim (grows.held id) [
@@ -134,18 +145,18 @@ module _ (x : Contents) (w v u : World) (at : IsAt x w u) (quiet : IsQuiet w v) 
       made_so : Assembled (storage_of u) (storage e k) stores cache i l z (Ok tt) → Holds e × ((j : ℕ) → j < count_of l → Had j)
       made_so h =
           let t = told_so e _ tells h in
-          let had = t.2.1 fs are in
+          let had = t.2.1 fs answering in
           (record { image = t.2.0.0; size = t.2.0.2.size; filled = λ j lt. (λ p. t.2.0.2.entries j lt, λ no. absurd (no (had j lt))); is = t.1 ∙ ap Some t.2.0.1.0 }, had)
 
       module _ (one : IsSome cache → GiveOneSize (IsListedAs l) (kind_of l) (map chunks cs ++ map chunks fs)) where
-        undisturbed : Undisturbed u.disk e cache l cs fs
-        undisturbed = (quiet_between w.disk u.disk e v.disk quiet.disk so_far later, one)
+        undisturbed : Undisturbed u.disk e x.folders stores cache l cs fs
+        undisturbed = record { quiet = quiet_between w.disk u.disk e v.disk quiet.disk so_far later; agree = agreeing; one_size = one }
 
         lacking_so : (n : ℕ) (id : ChunkId) (r : Refused) → StopsLacking (storage_of u) (storage e k) stores cache i l z n id r → Holds e × IsFirstLacking (first_store stores.groups) l Had (map chunks fs) n id r
         lacking_so n id r h =
             let t = told_so e _ tells h in (
-              record { image = t.2.0.0; size = t.2.0.1.1.size; filled = t.2.0.4 fs are undisturbed; is = t.1 ∙ ap Some t.2.0.1.0 },
-              record { listed = t.2.1.listed; least = t.2.2 fs are undisturbed; id_is = t.2.1.id_is; lacks = t.2.1.lacks fs are },
+              record { image = t.2.0.0; size = t.2.0.1.1.size; filled = t.2.0.4 fs answering undisturbed; is = t.1 ∙ ap Some t.2.0.1.0 },
+              record { listed = t.2.1.listed; least = t.2.2 fs answering undisturbed; id_is = t.2.1.id_is; lacks = t.2.1.lacks fs are },
             )
 
         refused_so : (o : Outcome) → Assembled (storage_of u) (storage e k) stores cache i l z (Err o) → (o ≡ ends.Memory) ⊎ (Holds e × NamesLacking (first_store stores.groups) l Had (map chunks fs) o)

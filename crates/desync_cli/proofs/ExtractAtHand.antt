@@ -5,7 +5,7 @@ use Rattle.std.proofs.lemmas.Option.{none-some, same_Some}
 use Rattle.std.specs.List.{AllZip, Any}
 use Rattle.caibx_codec.specs.Listing.{Listing, count_of, id_of, kind_of, size_of}
 use Rattle.caibx_codec.specs.Right.{IsRight}
-use Rattle.chunk_sources.proofs.Lacking.{any_cons}
+use Rattle.chunk_store.proofs.Members.{any_cons}
 use Rattle.chunk_store.specs.Folders.{chunks}
 use Rattle.chunk_store.specs.Giving.{GivesChunk}
 use Rattle.chunk_store.specs.declared.id.ChunkId.{ChunkId}
@@ -30,7 +30,7 @@ use Rattle.dsy_base.specs.Disk.{Disk}
 use Rattle.dsy_base.specs.Links.{DialState}
 use Rattle.dsy_base.specs.Maps.{Map, at_name}
 use Rattle.extract_command.proofs.Wrote.{wrote_on}
-use Rattle.extract_command.specs.Extract.{Assembled, CacheFilled, CacheGrows, CacheLacksEntry, ExtractEnds, ExtractStores, HadFrom, ImageMade, Into, IsLacking, KeepsIn, NeverFail, NotRenamed, OutMade, Renamed, Seeds, Told, WhereFolders, beside, folder_of, in_place, temporary_out}
+use Rattle.extract_command.specs.Extract.{Assembled, CacheFilled, CacheGrows, CacheLacksEntry, ExtractEnds, ExtractStores, HadFrom, ImageMade, Into, IsLacking, KeepsIn, NeverFail, NotRenamed, OutMade, Renamed, Seeds, Told, WhereMembers, beside, folder_of, in_place, temporary_out}
 use Rattle.store_chain.specs.declared.refused.Refused.{Refused}
 use Rattle.store_chain.specs.declared.refused.Refused.TheVariants as refused
 
@@ -125,7 +125,7 @@ module _ (sure : NeverFail) (stores : ExtractStores) (cache : Option (List ℕ))
   renamed_at_hand : (m c : Disk) (k : DialState) → Climbs m v.disk → Climbs c v.disk → ImageMade sure stores cache (beside out) l x (storage u.disk u.dial) (Ok tt) (storage m k) → (o : Outcome) → Renamed (temporary_out out) out m (Err o) c → o ≡ ends.Memory
   renamed_at_hand m c k mid later made o h = go o h.0 where
     made_so : (a : Map (List ℕ)) × (m.files ≡ Some a) × (cs : List (Map (List ℕ))) × (((t : List ℕ) × KeepsIn u.disk m b a (beside out) l t × IsRight t l)
-        × WhereFolders n stores (λ fs. (i : ℕ) → i < count_of l → HadFrom b (beside out) l x cs fs i))
+        × WhereMembers n stores (λ fs. (i : ℕ) → i < count_of l → HadFrom b (beside out) l x cs fs i))
     made_so = from_told u.disk m cache _ b n files folders made.2 made.0
 
     there : made_so.0 (temporary_out out) ≡ Some made_so.3.0.0

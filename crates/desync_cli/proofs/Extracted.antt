@@ -12,7 +12,7 @@ use Rattle.command_steps.specs.Sources.{storage, storage_of}
 use Rattle.command_words.specs.Locations.{index_place_of}
 use Rattle.command_steps.specs.Seeds.{image_name}
 use Rattle.command_worlds.specs.Worlds.{World}
-use Rattle.extract_command.specs.Extract.{ExtractEnds, ExtractStores, HadFrom, Into, IsExtracted, KeepsIn, NeverFail, Seeds, WhereFolders, beside, folder_of, in_place, temporary_out}
+use Rattle.extract_command.specs.Extract.{ExtractEnds, ExtractStores, HadFrom, Into, IsExtracted, KeepsIn, NeverFail, Seeds, WhereMembers, beside, folder_of, in_place, temporary_out}
 use Rattle.extract_command.proofs.Replaced.{beside_apart}
 use Rattle.dsy_base.proofs.Counts.{at_other, at_same}
 use Rattle.dsy_base.specs.Disk.{Disk}
@@ -22,7 +22,7 @@ use Rattle.std.specs.Option.{option_map}
 -- what the assembly from d to e says of the file, over what files and folders hold
 abbrev MadeOver : ExtractStores → Option (List ℕ) → Into → Listing → Seeds → Disk → Disk → Option (Map (List ℕ)) → Option (Map (Map (List ℕ))) → Option (Map (List ℕ)) → Type 0
 MadeOver stores cache o l x d e f y z = IfSome f (λ b. IfSome y (λ n. IfSome z (λ a. (cs : List (Map (List ℕ))) × (map n (folder_of cache) ≡ map Some cs)
-    × (((t : List ℕ) × KeepsIn d e b a o l t × IsRight t l) × WhereFolders n stores (λ fs. (i : ℕ) → i < count_of l → HadFrom b o l x cs fs i)))))
+    × (((t : List ℕ) × KeepsIn d e b a o l t × IsRight t l) × WhereMembers n stores (λ fs. (i : ℕ) → i < count_of l → HadFrom b o l x cs fs i)))))
 
 module _ (Spelled : List ℕ → Listing → Type 0) (names : ExtractStores) (cache : Option (List ℕ)) (index out : List ℕ) (l : Listing) (x : Seeds) (d e : Disk) (listed : Spelled index l) where
   -- over files that tell, of which the folders tell too

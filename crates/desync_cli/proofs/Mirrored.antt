@@ -1,12 +1,13 @@
 -- Groups all of whose folders give a chunk have refused it only where one of them failed.
-use Rattle.std.proofs.Common.{arith, ◌⊎◌, ◌≡◌, ◌≢◌, ◌∙◌, ℕ, ◌+◌, ◌<◌, length, List, [], ◌∷◌, Option, Some, None, IsSomeAnd, refl, subst, sym, inl, inr}
+use Rattle.std.proofs.Common.{arith, ◌⊎◌, ◌≡◌, ◌≢◌, ◌∙◌, ℕ, zero, suc, ◌+◌, ◌<◌, length, List, [], ◌∷◌, Option, Some, None, IsSomeAnd, refl, subst, sym, inl, inr}
 use Rattle.std.proofs.lemmas.List.Elements.{All-head, All-tail, All-weaker}
 use Rattle.std.proofs.lemmas.Option.{none-some, same_Some}
 use Rattle.std.specs.List.{All, Any}
 use Rattle.std.specs.Option.{option_map}
 use Rattle.caibx_codec.specs.Listing.{Listing, id_of, kind_of, size_of}
-use Rattle.chunk_sources.proofs.Lacking.{none_all, none_first}
+use Rattle.chunk_sources.proofs.Lacking.{none_all}
 use Rattle.chunk_sources.specs.Losses.{chunk_of}
+use Rattle.chunk_store.proofs.Members.{any_cons}
 use Rattle.chunk_store.specs.Folders.{chunks}
 use Rattle.chunk_store.specs.Giving.{GivesChunk, IsChunk}
 use Rattle.chunk_store.specs.Said.{Said, said_by}
@@ -23,12 +24,27 @@ use Rattle.desync_cli.proofs.Climbs.{NoneRose}
 use Rattle.desync_cli.proofs.Grouped.{store_rose}
 use Rattle.desync_cli.specs.AtHand.{GroupGivesEntry, StoreGivesEntry}
 use Rattle.dsy_base.specs.Maps.{Map}
+use Rattle.store_chain.specs.Lists.{FirstAt}
 use Rattle.store_chain.specs.Queries.{ShowsElse}
 use Rattle.store_chain.specs.Refusals.{HasShown, Lacks}
 use Rattle.store_chain.specs.declared.query.Query.{Query}
 use Rattle.store_chain.specs.declared.refused.Refused.{Refused}
 use Rattle.store_chain.specs.declared.refused.Refused.TheVariants as refused
 use Rattle.store_group.specs.Groups.{SomeStore}
+
+-- one element is told from those before it and those after it, and Q holds of none of them
+module _ {X : Type 0} (Q : X → Type 0) where
+  none_first : (B A C : X → Type 0) → ((x : X) → B x → Q x → ⊥) → ((x : X) → A x → Q x → ⊥) → ((x : X) → C x → Q x → ⊥)
+      → (n : ℕ) (xs : List X) → FirstAt B A C n xs → Any Q xs → ⊥
+  none_first B A C b a c n [] first any = absurd first
+  none_first B A C b a c zero (x ∷ xs) first any = elim (any_cons Q x xs any) [
+    | inl q ↦ a x first.0 q
+    | inr later ↦ none_all Q xs (All-weaker C (λ y. Q y → ⊥) c xs first.1) later
+  ]
+  none_first B A C b a c (suc n) (x ∷ xs) first any = elim (any_cons Q x xs any) [
+    | inl q ↦ b x first.0 q
+    | inr later ↦ none_first B A C b a c n xs first.1 later
+  ]
 
 -- ---- what stores lack
 

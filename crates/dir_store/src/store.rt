@@ -166,10 +166,12 @@ impl<F: Folder> DirStore<F> {
 impl<F: Look> Store for DirStore<F> {
     ghost use Rattle.std.specs.Option.{option_map};
     ghost use Rattle.chunk_store.specs.Folders.{chunks};
-    ghost use Rattle.chunk_store.specs.Said.{said_by, says_map};
+    ghost use Rattle.chunk_store.specs.Said.{answers_alone, just_one, said_by, says_map, vouched_map};
     ghost use Rattle.dir_store.specs.Stores.{lies_map, unasked_map, told_map};
 
     ghost holds = { λ s. option_map chunks (F.files s) };
+
+    ghost members = { λ s. just_one (option_map chunks (F.files s)) };
 
     ghost folder = { λ s. F.files s };
 
@@ -199,6 +201,10 @@ impl<F: Look> Store for DirStore<F> {
         let path = id.path();
         self.folder.has(path.as_str())
     }
+
+    ghost alone = { λ s. answers_alone (option_map chunks (F.files s)) };
+
+    ghost vouched = { λ s. vouched_map (option_map chunks (F.files s)) };
 
     ghost says = { λ s. says_map (option_map chunks (F.files s)) };
 

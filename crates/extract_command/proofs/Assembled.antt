@@ -5,6 +5,7 @@ use Rattle.assembler.specs.Obtainable.{IsObtainableOrBase, OnlyObtainable}
 use Rattle.assembler.specs.Passes.{want_at}
 use Rattle.assembler.specs.declared.fault.ExtractFault.{ExtractFault}
 use Rattle.assembler.specs.declared.fault.ExtractFault.TheVariants as faults
+use Rattle.chunk_store.specs.Members.{maps_of}
 use Rattle.range_survey.specs.declared.report.Report.{Report}
 use Rattle.caibx_codec.specs.Listing.{Listing, count_of, id_of, image_length, kind_of, size_of, slice_of}
 use Rattle.chunk_sources.specs.Losses.{chunk_of}
@@ -32,12 +33,12 @@ use Rattle.store_chain.specs.declared.refused.Refused.{Refused}
 use Rattle.store_chain.specs.declared.refused.Refused.TheVariants as refused
 use Rattle.extract_command.proofs.Seeded.{given_had, had_given}
 use Rattle.command_groups.proofs.Lacked.{damaged_is, lacks_numbered}
-use Rattle.command_groups.specs.Groups.{first_store, group_files}
+use Rattle.command_groups.specs.Groups.{first_store, member_files}
 use Rattle.command_groups.specs.Lacking.{GroupsLack}
 use Rattle.command_groups.specs.Numbers.{IsNumbered, answer_of_stores, refused_of_stores}
 use Rattle.command_steps.proofs.Taken.{at_name_twice}
 use Rattle.command_steps.specs.Sources.{Storage}
-use Rattle.extract_command.specs.Extract.{Assembled, CacheLacksEntry, CanBeHad, ExtractStores, Into, IsLacking, IsTorn, Leaves, NoneAsked, NoneReached, OnlyHad, SeedHas, Seeds, StopsFailed, StopsSomewhere, Told, Undisturbed, WhereFolders, answer_of_assembly, answer_of_taking, base_of, folder_of, old_of}
+use Rattle.extract_command.specs.Extract.{Assembled, CacheLacksEntry, CanBeHad, ExtractStores, Into, IsLacking, IsTorn, Leaves, NoneAsked, NoneReached, OnlyHad, SeedHas, Seeds, StopsFailed, StopsSomewhere, Told, Undisturbed, WhereFolders, WhereMembers, answer_of_assembly, answer_of_taking, base_of, folder_of, old_of}
 use Rattle.command_steps.specs.Seeds.{IsViewed}
 use Rattle.command_worlds.specs.Worlds.{DiskQuiet, FileRose}
 
@@ -285,9 +286,9 @@ module _ (w v : Storage) (stores : ExtractStores) (cache : Option (List ℕ)) (o
       pub leaves : Leaves b a out t
       pub assembles : Assembles l (NoneReached w v stores) before_it after_it r (old_of b out) t
       pub lacks : IfErr r (LostAs (IsLackingFor b n))
-      pub only : WhereFolders n stores (λ fs. OnlyObtainable l (CanBeHad l (base_of b out l) b x (map chunks cs ++ map chunks fs)) before_it after_it r (old_of b out) t)
-      pub verdict : WhereFolders n stores (λ fs. Undisturbed d e cache l cs fs → Verdict l (CanBeHad l (base_of b out l) b x (map chunks cs ++ map chunks fs)) r)
-      pub settled : WhereFolders n stores (λ fs. Undisturbed d e cache l cs fs → After l (CanBeHad l (base_of b out l) b x (map chunks cs ++ map chunks fs)) (base_of b out l) t r)
+      pub only : WhereMembers n stores (λ fs. OnlyObtainable l (CanBeHad l (base_of b out l) b x (map chunks cs ++ map chunks fs)) before_it after_it r (old_of b out) t)
+      pub verdict : WhereMembers n stores (λ fs. Undisturbed d e n stores cache l cs fs → Verdict l (CanBeHad l (base_of b out l) b x (map chunks cs ++ map chunks fs)) r)
+      pub settled : WhereMembers n stores (λ fs. Undisturbed d e n stores cache l cs fs → After l (CanBeHad l (base_of b out l) b x (map chunks cs ++ map chunks fs)) (base_of b out l) t r)
 
     abbrev AllFacts : Result Report ExtractFault → Type 0
     AllFacts r = (b : Map (List ℕ)) (n : Map (Map (List ℕ))) (a : Map (List ℕ)) → d.files ≡ Some b → d.folders ≡ Some n → e.files ≡ Some a → Facts r b n a
@@ -330,8 +331,7 @@ module _ (w v : Storage) (stores : ExtractStores) (cache : Option (List ℕ)) (o
 
     module _ (P : List (Map (List ℕ)) → List ℕ → ℕ → Type 0) (had : (b : Map (List ℕ)) → d.files ≡ Some b → (maps : List (Map (List ℕ))) (base : List ℕ) (i : ℕ) → i < count_of l → P maps base i → CanBeHad l base b x maps i)
         (back : (b : Map (List ℕ)) → d.files ≡ Some b → DiskQuiet d e → (maps : List (Map (List ℕ))) (base : List ℕ) (i : ℕ) → i < count_of l → CanBeHad l base b x maps i → P maps base i) where
-      pub facts_of : (r : Result Report ExtractFault) (looks : List (Option (Map (List ℕ)))) (C : List (Map (List ℕ)) → Type 0) (t0 t1 : Option (List ℕ)) (U : Type 0) (f0 f1 : ℕ) (M N : List (Map (List ℕ)) → List (Map (List ℕ)) → Type 0)
-          → IfSome d.folders (λ m. looks ≡ map (group_files stores.sure m) stores.groups)
+      pub facts_of : (r : Result Report ExtractFault) (C : List (Map (List ℕ)) → Type 0) (t0 t1 : Option (List ℕ)) (U : Type 0) (f0 f1 : ℕ) (M N : List (Map (List ℕ)) → List (Map (List ℕ)) → Type 0)
           → ((n : Map (Map (List ℕ))) → d.folders ≡ Some n → WhereFolders n stores (λ fs. (k : ℕ) → slice_index active k ≡ 0))
           → IfSome d.folders (λ n. (cs : List (Map (List ℕ))) × (map n (folder_of cache) ≡ map Some cs) × C cs)
           → IfSome d.files (λ m. t0 ≡ Some (old_of m out)) → is_some t0 ≡ is_some t1
@@ -342,21 +342,20 @@ module _ (w v : Storage) (stores : ExtractStores) (cache : Option (List ℕ)) (o
           → ((b : Map (List ℕ)) → d.files ≡ Some b → (cached maps : List (Map (List ℕ))) → M cached maps → WhereTold t0 t1 (λ o t. OnlyObtainable l (CanBeHad l (resized o (image_length l)) b x (cached ++ maps)) f0 f1 r o t))
           → ((cached maps : List (Map (List ℕ))) → N cached maps → IfSome t0 (λ o. Verdict l (P (cached ++ maps) (resized o (image_length l))) r))
           → ((cached maps : List (Map (List ℕ))) → N cached maps → WhereTold t0 t1 (λ o t. After l (P (cached ++ maps) (resized o (image_length l))) (resized o (image_length l)) t r))
-          → ((b : Map (List ℕ)) → d.files ≡ Some b → (n : Map (Map (List ℕ))) → d.folders ≡ Some n → (fs : List (Map (List ℕ))) → map (group_files stores.sure n) stores.groups ≡ map Some fs → looks ≡ map Some fs → (cs : List (Map (List ℕ))) → C cs → M (map chunks cs) (map chunks fs))
-          → ((b : Map (List ℕ)) → d.files ≡ Some b → (n : Map (Map (List ℕ))) → d.folders ≡ Some n → (fs : List (Map (List ℕ))) → map (group_files stores.sure n) stores.groups ≡ map Some fs → looks ≡ map Some fs → (cs : List (Map (List ℕ))) → C cs → Undisturbed d e cache l cs fs → N (map chunks cs) (map chunks fs)) → AllFacts r
-      facts_of r looks C t0 t1 U f0 f1 M N found first cached took told left excused none bytes lacks only exactly after shown quiet b n a is y z =
-          let f : looks ≡ map (group_files stores.sure n) stores.groups = subst (λ o. IfSome o (λ m. looks ≡ map (group_files stores.sure m) stores.groups)) y found in
+          → ((b : Map (List ℕ)) → d.files ≡ Some b → (n : Map (Map (List ℕ))) → d.folders ≡ Some n → (fs : List (Map (List ℕ))) → maps_of (member_files stores.sure n) stores.groups ≡ Some fs → (cs : List (Map (List ℕ))) → C cs → M (map chunks cs) (map chunks fs))
+          → ((b : Map (List ℕ)) → d.files ≡ Some b → (n : Map (Map (List ℕ))) → d.folders ≡ Some n → (fs : List (Map (List ℕ))) → maps_of (member_files stores.sure n) stores.groups ≡ Some fs → (cs : List (Map (List ℕ))) → C cs → Undisturbed d e n stores cache l cs fs → N (map chunks cs) (map chunks fs)) → AllFacts r
+      facts_of r C t0 t1 U f0 f1 M N first cached took told left excused none bytes lacks only exactly after shown quiet b n a is y z =
           let g : (cs : List (Map (List ℕ))) × (map n (folder_of cache) ≡ map Some cs) × C cs = subst (λ o. IfSome o (λ n. (cs : List (Map (List ℕ))) × (map n (folder_of cache) ≡ map Some cs) × C cs)) y cached in
           let o : t0 ≡ Some (old_of b out) = subst (λ o. IfSome o (λ m. t0 ≡ Some (old_of m out))) is took in
           let lf : e.files ≡ option_map (λ m. at_name m out.name t1) (option_map (λ m. at_name m out.name None) (Some b)) =
           subst (λ s. e.files ≡ option_map (λ m. at_name m out.name t1) (option_map (λ m. at_name m out.name None) s)) is left in
-          go (old_of b out) t0 t1 o (subst (λ s. is_some s ≡ is_some t1) o told) (sym z ∙ lf) g.0 g.1 bytes (lacks b is n y) (λ fs there. only b is (map chunks g.0) (map chunks fs) (shown b is n y fs there (f ∙ there) g.0 g.2)) (λ fs there k. exactly (map chunks g.0) (map chunks fs) (quiet b is n y fs there (f ∙ there) g.0 g.2 k))
-          (λ fs there k. after (map chunks g.0) (map chunks fs) (quiet b is n y fs there (f ∙ there) g.0 g.2 k)) refl where
+          go (old_of b out) t0 t1 o (subst (λ s. is_some s ≡ is_some t1) o told) (sym z ∙ lf) g.0 g.1 bytes (lacks b is n y) (λ fs there. only b is (map chunks g.0) (map chunks fs) (shown b is n y fs there g.0 g.2)) (λ fs there k. exactly (map chunks g.0) (map chunks fs) (quiet b is n y fs there g.0 g.2 k))
+          (λ fs there k. after (map chunks g.0) (map chunks fs) (quiet b is n y fs there g.0 g.2 k)) refl where
             go : (old : List ℕ) (s0 s1 : Option (List ℕ)) → s0 ≡ Some old → true ≡ is_some s1 → Some a ≡ Some (at_name (at_name b out.name None) out.name s1)
                 → (cs : List (Map (List ℕ))) → map n (folder_of cache) ≡ map Some cs → WhereTold s0 s1 (Assembles l U f0 f1 r) → IfSome s0 (λ o. IfErr r (LostAs (AllLack b n o)))
-                → WhereFolders n stores (λ fs. WhereTold s0 s1 (λ o t. OnlyObtainable l (CanBeHad l (resized o (image_length l)) b x (map chunks cs ++ map chunks fs)) f0 f1 r o t))
-                → WhereFolders n stores (λ fs. Undisturbed d e cache l cs fs → IfSome s0 (λ o. Verdict l (P (map chunks cs ++ map chunks fs) (resized o (image_length l))) r))
-                → WhereFolders n stores (λ fs. Undisturbed d e cache l cs fs → WhereTold s0 s1 (λ o t. After l (P (map chunks cs ++ map chunks fs) (resized o (image_length l))) (resized o (image_length l)) t r))
+                → WhereMembers n stores (λ fs. WhereTold s0 s1 (λ o t. OnlyObtainable l (CanBeHad l (resized o (image_length l)) b x (map chunks cs ++ map chunks fs)) f0 f1 r o t))
+                → WhereMembers n stores (λ fs. Undisturbed d e n stores cache l cs fs → IfSome s0 (λ o. Verdict l (P (map chunks cs ++ map chunks fs) (resized o (image_length l))) r))
+                → WhereMembers n stores (λ fs. Undisturbed d e n stores cache l cs fs → WhereTold s0 s1 (λ o t. After l (P (map chunks cs ++ map chunks fs) (resized o (image_length l))) (resized o (image_length l)) t r))
                 → old ≡ old_of b out → Facts r b n a
             go old None s1 same is_told are cs shelf bs ls only verdict settled at = absurd (cc)
             go old (Some o) None same is_told are cs shelf bs ls only verdict settled at = absurd (cc)
@@ -364,9 +363,9 @@ module _ (w v : Storage) (stores : ExtractStores) (cache : Option (List ℕ)) (o
                 let was : o ≡ old_of b out = cc in
                 over o was bs ls only verdict settled where
                   over : (p : List ℕ) → p ≡ old_of b out → Assembles l U f0 f1 r p t → IfErr r (LostAs (AllLack b n p))
-                      → WhereFolders n stores (λ fs. OnlyObtainable l (CanBeHad l (resized p (image_length l)) b x (map chunks cs ++ map chunks fs)) f0 f1 r p t)
-                      → WhereFolders n stores (λ fs. Undisturbed d e cache l cs fs → Verdict l (P (map chunks cs ++ map chunks fs) (resized p (image_length l))) r)
-                      → WhereFolders n stores (λ fs. Undisturbed d e cache l cs fs → After l (P (map chunks cs ++ map chunks fs) (resized p (image_length l))) (resized p (image_length l)) t r) → Facts r b n a
+                      → WhereMembers n stores (λ fs. OnlyObtainable l (CanBeHad l (resized p (image_length l)) b x (map chunks cs ++ map chunks fs)) f0 f1 r p t)
+                      → WhereMembers n stores (λ fs. Undisturbed d e n stores cache l cs fs → Verdict l (P (map chunks cs ++ map chunks fs) (resized p (image_length l))) r)
+                      → WhereMembers n stores (λ fs. Undisturbed d e n stores cache l cs fs → After l (P (map chunks cs ++ map chunks fs) (resized p (image_length l))) (resized p (image_length l)) t r) → Facts r b n a
                   over p was bs ls only verdict settled =
                       record {
                         cs = cs;
@@ -384,10 +383,10 @@ module _ (w v : Storage) (stores : ExtractStores) (cache : Option (List ℕ)) (o
                             let maps = map chunks cs ++ map chunks fs in
                             subst (λ (q : List ℕ). Verdict l (CanBeHad l (resized q (image_length l)) b x maps) r) was
                             (verdict_as l (P maps (resized p (image_length l))) (CanBeHad l (resized p (image_length l)) b x maps) (had b is maps (resized p (image_length l)))
-                            (back b is k.0 maps (resized p (image_length l))) r (lost_on (AllLack b n p) (λ i id y. i < count_of l) (λ i id y h. h.0.0) r ls) (verdict fs there k));
+                            (back b is k.quiet maps (resized p (image_length l))) r (lost_on (AllLack b n p) (λ i id y. i < count_of l) (λ i id y h. h.0.0) r ls) (verdict fs there k));
                         settled = λ fs there k.
                             let maps = map chunks cs ++ map chunks fs in
                             subst (λ (q : List ℕ). After l (CanBeHad l (resized q (image_length l)) b x maps) (resized q (image_length l)) t r) was
                             (after_as l (P maps (resized p (image_length l))) (CanBeHad l (resized p (image_length l)) b x maps) (resized p (image_length l)) t (had b is maps (resized p (image_length l)))
-                            (back b is k.0 maps (resized p (image_length l))) r (settled fs there k));
+                            (back b is k.quiet maps (resized p (image_length l))) r (settled fs there k));
                       }

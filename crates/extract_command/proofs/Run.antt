@@ -11,24 +11,26 @@ use Rattle.assembler.specs.OneKit.{Lent, lent}
 use Rattle.assembler.specs.declared.fault.ExtractFault.{ExtractFault}
 use Rattle.cache_store.specs.Shelves.{Shelf}
 use Rattle.caibx_codec.specs.Asks.{IsListedGet}
-use Rattle.caibx_codec.specs.Listing.{Listing, image_length, size_of}
-use Rattle.chunk_sources.specs.Caches.{CacheGives, HaveOneSize, cache_faults, cached_in}
+use Rattle.caibx_codec.specs.Listing.{Listing, image_length, size_of, kind_of}
+use Rattle.chunk_sources.specs.Caches.{CacheGives, HaveOneSize, cache_faults, cached_in, IsListedAs}
 use Rattle.chunk_sources.specs.Sources as origins
 use Rattle.chunk_sources.specs.Sources.{SourcesQuiet}
 use Rattle.chunk_sources.specs.Wants.{Task}
 use Rattle.chunk_sources.specs.declared.kit.Kit.{Kit}
 use Rattle.chunk_store.specs.Folders.{chunks}
+use Rattle.chunk_store.specs.Giving.{GivesChunk}
+use Rattle.chunk_store.specs.Members.{GroupsAgree, maps_of, told_together}
 use Rattle.chunk_store.specs.declared.store.Store.{Ghosts as StoreWords}
 use Rattle.command_steps.proofs.Cached.{given_adds, given_folders}
 use Rattle.command_steps.proofs.Dialed.{dials_none, dials_twice}
 use Rattle.command_groups.proofs.Given.{group_given_earlier, group_given_longer}
-use Rattle.command_groups.proofs.Quiet.{groups_quiet}
-use Rattle.command_groups.proofs.Seen.{first_active, groups_hold, groups_tell}
+use Rattle.command_groups.proofs.Quiet.{groups_quiet, folders_quiet, members_all_begin}
+use Rattle.command_groups.proofs.Seen.{first_active, groups_hold, groups_tell, chunks_agree}
 use Rattle.command_groups.proofs.Stand.{active_inside, folders_still, found_after, fresh_counts, fresh_first, groups_stand_still}
 use Rattle.command_groups.proofs.Standing.{GroupStands, all_groups_stand}
 use Rattle.command_groups.proofs.Words.{group_words}
 use Rattle.command_groups.specs.Asking.{GroupsDialed, WorkersGroupsDialed, with_retries}
-use Rattle.command_groups.specs.Groups.{group_files, stores_of}
+use Rattle.command_groups.specs.Groups.{group_files, stores_of, member_files}
 use Rattle.command_groups.specs.Numbers.{answer_of_stores}
 use Rattle.command_groups.specs.Opened.{IsGroupGiven, files_in, locations_in, told_files, with_group}
 use Rattle.command_steps.proofs.Lent.{each_quiet, store_rose}
@@ -52,7 +54,7 @@ use Rattle.dsy_base.specs.declared.view.View.{Ghosts as ViewWords}
 use Rattle.extract_command.proofs.Asked.{kit_gets, kit_sends, kit_tries}
 use Rattle.extract_command.proofs.Assembled.{ExcusesAs, assembled, facts_of, given_excuses, had_of, obtainable_of}
 use Rattle.extract_command.proofs.First.{only_told}
-use Rattle.extract_command.proofs.Had.{kit_had, kits_alike, kits_tell}
+use Rattle.extract_command.proofs.Had.{kit_had, kits_alike, kits_tell, kit_known, kit_members}
 use Rattle.extract_command.proofs.LentKits.{IsKitAdded, all_given_back, given_nothing, kits_added, nothing_twice, workers_dialed}
 use Rattle.extract_command.proofs.Lost.{lacks_told, others_at, store_told, target_as}
 use Rattle.extract_command.proofs.Plans.{seed_index_by}
@@ -370,10 +372,10 @@ module _ {L V D K : Type 0} (look : LookWords L) (view : ViewWords V) (state : D
 
     -- what is told, and what is quiet
     abbrev IsShown : List (Map (List ℕ)) → List (Map (List ℕ)) → Type 0
-    IsShown cached maps = (m : Map (Map (List ℕ))) × (d.folders ≡ Some m) × (fs : List (Map (List ℕ))) × (map (group_files sure m) names.groups ≡ map Some fs) × (maps ≡ map chunks fs) × IsTrue view.tells × (cached_in e0 ≡ Some cached)
+    IsShown cached maps = (m : Map (Map (List ℕ))) × (d.folders ≡ Some m) × (fs : List (Map (List ℕ))) × (maps_of (member_files sure m) names.groups ≡ Some fs) × (maps ≡ map chunks fs) × IsTrue view.tells × (cached_in e0 ≡ Some cached)
 
     abbrev IsStill : List (Map (List ℕ)) → List (Map (List ℕ)) → Type 0
-    IsStill cached maps = AreKitsAlike words view t (x.k ∷ x.more) × SourcesQuiet words view from to cached maps × HaveOneSize l e0 cached maps
+    IsStill cached maps = AreKitsAlike words view t (x.k ∷ x.more) × SourcesQuiet words view (kind_of l) (IsListedAs l) from to cached maps × HaveOneSize l e0 cached maps
 
     only : (m : Map (List ℕ)) → d'.files ≡ Some m → (cached maps : List (Map (List ℕ))) → IsShown cached maps
         → WhereTold x.t0 x.t1 (λ o y. OnlyObtainable l (CanBeHad l (resized o (image_length l)) m z (cached ++ maps)) x.f0 x.f1 r o y)
@@ -381,28 +383,32 @@ module _ {L V D K : Type 0} (look : LookWords L) (view : ViewWords V) (state : D
         (λ y i lt has. subst (λ (q : List (Map (List ℕ))). CanBeHad l (resized y (image_length l)) m z (cached ++ q) i) (sym are) (kit_had look view state d x.b names z ns at fs at_fs m told t (x.k ∷ x.more) x.all is_here cached y i lt has))
         (x.made.had (kits_tell look view state d x.b names z ns at fs at_fs t (x.k ∷ x.more) x.all tells) cached shelved)
 
-    quiet : (m : Map (List ℕ)) → d'.files ≡ Some m → (ns : Map (Map (List ℕ))) → d.folders ≡ Some ns → (fs : List (Map (List ℕ))) → map (group_files sure ns) names.groups ≡ map Some fs → map files was ≡ map Some fs → (cs : List (Map (List ℕ)))
-        → cached_in e0 ≡ Some (map chunks cs) → Undisturbed d e cache l cs fs → IsStill (map chunks cs) (map chunks fs)
-    quiet m told ns at fs at_fs looks cs shelved still = (
-      kits_alike look view state d x.b names z ns at fs at_fs m told t (quiet_opened still.0) (x.k ∷ x.more) x.all,
+    each_inside : All (λ g. g.active < length g.stores) now
+    each_inside i g lt = (x.given i g lt).active
+
+    quiet : (m : Map (List ℕ)) → d'.files ≡ Some m → (ns : Map (Map (List ℕ))) → d.folders ≡ Some ns → (fs : List (Map (List ℕ))) → maps_of (member_files sure ns) names.groups ≡ Some fs → (cs : List (Map (List ℕ)))
+        → cached_in e0 ≡ Some (map chunks cs) → Undisturbed d e ns sources cache l cs fs → IsStill (map chunks cs) (map chunks fs)
+    quiet m told ns at fs at_fs cs shelved still = (
+      kits_alike look view state d x.b names z ns at fs at_fs m told t (quiet_opened still.quiet) (x.k ∷ x.more) x.all,
       record {
-        target = subst (λ (q : ℕ). Quiet q x.f1) (sym x.fresh) (given_quiet (count_at d'.file_counts out.name) (count_at x.b4.file_counts out.name) (count_at e.file_counts out.name) x.f1 (n.to_given out.name) x.put.counts.added (still.0.files out.name));
+        target = subst (λ (q : ℕ). Quiet q x.f1) (sym x.fresh) (given_quiet (count_at d'.file_counts out.name) (count_at x.b4.file_counts out.name) (count_at e.file_counts out.name) x.f1 (n.to_given out.name) x.put.counts.added (still.quiet.files out.name));
         telling = λ some. x.tells m told;
-        seeds = each_quiet (faults_in view.faults) (label_in view.held) d'.file_counts x.b3.file_counts e.file_counts n.to_closed x.k.seeds.items x.j.seeds.items labels fresh_seeds seeds_added still.0.files;
+        seeds = each_quiet (faults_in view.faults) (label_in view.held) d'.file_counts x.b3.file_counts e.file_counts n.to_closed x.k.seeds.items x.j.seeds.items labels fresh_seeds seeds_added still.quiet.files;
         told_cache = shelved;
-        cache = cache_quiet d e x.first.disk x.bc n.reached n.from_cached (cache_faults e0) x.e1 x.sound x.shelf still.0;
-        told = groups_hold sure look.files was fs looks;
-        stores = groups_quiet sure look.files look.place look.faults state w v names.groups fs was now none_failed (used.stores.files ∙ looks) given_stores still.0.folders;
+        cache = cache_quiet d e x.first.disk x.bc n.reached n.from_cached (cache_faults e0) x.e1 x.sound x.shelf still.quiet;
+        told = kit_members look view state d x.b names z ns at fs at_fs x.k one;
+        agree = λ id size listed. subst (GroupsAgree (λ m. GivesChunk (kind_of l) id size (m id))) (sym (kit_known look view state d x.b names z ns at fs at_fs x.k one))
+            (chunks_agree (λ m. GivesChunk (kind_of l) id size (m id)) sure ns names.groups (still.agree id size listed));
+        stores = folders_quiet sure look.files look.place look.faults state w v names.groups was now none_failed
+            (members_all_begin sure look.files look.place look.faults state w v (map chunks fs) now (ap told_together used.stores.members ∙ kit_members look view state d x.b names z ns at fs at_fs x.k one) each_inside)
+            given_stores still.quiet.folders;
       },
-      one_size e0 cache l (map chunks cs) (map chunks fs) x.named still.1,
+      one_size e0 cache l (map chunks cs) (map chunks fs) x.named still.one_size,
     )
 
     -- the stores that are active afterwards
     abbrev pub active : List ℕ
     active = map (λ g. g.active) now
-
-    each_inside : All (λ g. g.active < length g.stores) now
-    each_inside i g lt = (x.given i g lt).active
 
     inside : (k : ℕ) → k < length names.groups → slice_index active k < length (slice_index_or names.groups k [])
     inside = active_inside look.place now names.groups now_at each_inside
@@ -416,12 +422,12 @@ module _ {L V D K : Type 0} (look : LookWords L) (view : ViewWords V) (state : D
         (facts_of w v sources cache out l z active inside (λ maps base. IsObtainable t base views maps)
         (λ m told maps base i lt. had_of d x.b t z views one.viewed is_here m told base maps i lt)
         (λ m told still maps base i lt. obtainable_of d x.b t z views one.viewed is_here m told base maps i lt (quiet_opened still))
-        r (map files was) (λ cs. cached_in e0 ≡ Some (map chunks cs)) x.t0 x.t1 (NoneUsed before after) x.f0 x.f1 IsShown IsStill told first there_before took_bytes x.told left excused
+        r (λ cs. cached_in e0 ≡ Some (map chunks cs)) x.t0 x.t1 (NoneUsed before after) x.f0 x.f1 IsShown IsStill first there_before took_bytes x.told left excused
         (λ none. (unreached none.0, shelf_now ∙ ap (λ s. folders_with s d'.folders) none.1)) x.made.bytes
         (λ m is_told ns y. lacks_told words location view t w v sources cache out z x.t0 from to used.stores located stand ns
         (λ fs at. groups_hold sure look.files was fs (told_at ns y ∙ at)) rose m
         (others_at words location view t w v sources cache out z x.t0 from to x.b m is_told one.viewed is_here later rises (cache_lacking d e e0 x.e1 cache l d'.folders name_now shelf_now shelf_rose)) (Rose x.f0 x.f1) r (x.made.lost x.k x.j))
         only (λ cached maps q. x.made.exactly q.0 x.k x.j cached maps q.1 q.2) (λ cached maps q. x.made.after q.0 x.k x.j cached maps q.1 q.2)
-        (λ m told ns at fs at_fs looks cs shelved. (ns, at, fs, at_fs, refl, x.tells m told, shelved)) quiet)
+        (λ m told ns at fs at_fs cs shelved. (ns, at, fs, at_fs, refl, x.tells m told, shelved)) quiet)
         (target_as _ (Rose x.f0 x.f1) (FileRose d e out.name) rose r (x.made.lost x.k x.j))
         (store_told words location view t w v sources cache out z x.t0 from to used.stores located stand (Rose x.f0 x.f1) r (x.made.lost x.k x.j))

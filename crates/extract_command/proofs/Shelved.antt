@@ -10,11 +10,12 @@ use Rattle.caibx_codec.specs.Listing.{Listing, id_of, kind_of, size_of}
 use Rattle.chunk_sources.specs.Caches.{CacheLacks, HaveOneSize, IsListedAs, Stocked, TakesListed, cache_faults, cached_in, seen}
 use Rattle.chunk_store.specs.Folders.{chunks}
 use Rattle.chunk_store.specs.Giving.{GivesChunk}
+use Rattle.chunk_store.specs.Members.{maps_of}
 use Rattle.chunk_store.specs.declared.id.DigestKind.{DigestKind}
 use Rattle.chunk_store.specs.declared.store.Store.{Ghosts as StoreWords}
 use Rattle.command_steps.proofs.Numbers.{given_quiet, given_rose, rose_longer}
 use Rattle.command_steps.specs.Cache.{CacheGiven, folders_with}
-use Rattle.command_groups.specs.Groups.{group_files}
+use Rattle.command_groups.specs.Groups.{member_files}
 use Rattle.command_worlds.specs.Worlds.{DiskQuiet, FolderRose}
 use Rattle.command_steps.proofs.Taken.{at_name_twice}
 use Rattle.extract_command.specs.Extract.{CacheFilled, CacheGrows, CacheLacksEntry, ExtractStores, IsForCache, folder_of}
@@ -154,7 +155,7 @@ module _ (stores : ExtractStores) (l : Listing) (c : List ℕ) where
 
 -- what these stores hold is in the folders
 abbrev pub AreOfFolders : {S : Type 0} → StoreWords S → List S → ExtractStores → Map (Map (List ℕ)) → Type 0
-AreOfFolders store xs stores n = (fs : List (Map (List ℕ))) → map (group_files stores.sure n) stores.groups ≡ map Some fs → (id b : List ℕ) → SomeHolds store.holds xs id b → Any (λ m. m id ≡ Some b) (map chunks fs)
+AreOfFolders store xs stores n = (fs : List (Map (List ℕ))) → maps_of (member_files stores.sure n) stores.groups ≡ Some fs → (id b : List ℕ) → SomeHolds store.members xs id b → Any (λ m. m id ≡ Some b) (map chunks fs)
 
 module _ {S : Type 0} (store : StoreWords S) (xs : List S) (l : Listing) (n : Map (Map (List ℕ))) (stores : ExtractStores) (held : AreOfFolders store xs stores n) where
   for_cache : (q b : List ℕ) → TakesListed store l xs q b → IsForCache l n stores q b

@@ -21,6 +21,7 @@ use Rattle.chunk_sources.specs.Wants.{IsAmong}
 use Rattle.chunk_store.specs.Folders.{chunks}
 use Rattle.chunk_store.specs.Giving.{GivesChunk, IsChunk}
 use Rattle.chunk_store.specs.Digests.{digest_of}
+use Rattle.chunk_store.specs.Members.{GroupsAgree, maps_of}
 use Rattle.chunk_store.specs.declared.id.ChunkId.{ChunkId}
 use Rattle.chunk_store.specs.declared.id.DigestKind.{DigestKind}
 use Rattle.command_outcome.specs.declared.outcome.Outcome.{Outcome}
@@ -34,7 +35,7 @@ use Rattle.dsy_base.specs.Maps.{Map, at_name}
 use Rattle.dsy_base.specs.declared.fault.IoFault.{IoFault}
 use Rattle.dsy_base.specs.declared.fault.IoFault.TheVariants as io
 use Rattle.command_groups.specs.Asking.{WorkersGroupsDialed, with_retries}
-use Rattle.command_groups.specs.Groups.{first_store, group_files, stores_of}
+use Rattle.command_groups.specs.Groups.{first_store, group_files, member_files, stores_of}
 use Rattle.command_groups.specs.Lacking.{HaveLackedIn, LacksIn}
 use Rattle.command_steps.specs.Asking.{AsksFew, EachDialed, SendsFronts}
 use Rattle.command_steps.specs.Cache.{CacheOpened}
@@ -159,11 +160,16 @@ abbrev pub WhereFolders : Map (Map (List ℕ)) → ExtractStores → (List (Map 
 WhereFolders n stores P =
     (fs : List (Map (List ℕ))) → map (group_files stores.sure n) stores.groups ≡ map Some fs → P fs
 
+-- so it is where all members of the groups tell, over these folders: these are the files of all of them
+abbrev pub WhereMembers : Map (Map (List ℕ)) → ExtractStores → (List (Map (List ℕ)) → Type 0) → Type 0
+WhereMembers n stores P =
+    (fs : List (Map (List ℕ))) → maps_of (member_files stores.sure n) stores.groups ≡ Some fs → P fs
+
 -- where stores are folders, each entry can be obtained, or has the base's bytes in t, unless a write to it failed;
 -- whatever else fails
 abbrev pub OnlyHad : Disk → Disk → Map (List ℕ) → Map (Map (List ℕ)) → List (Map (List ℕ)) → ExtractStores → Into
     → Listing → Seeds → List ℕ → Type 0
-OnlyHad d e before n cs stores out l x t = WhereFolders n stores (λ fs.
+OnlyHad d e before n cs stores out l x t = WhereMembers n stores (λ fs.
     IsObtainableOrBase l (HadFrom before out l x cs fs) (count_at d.file_counts out.name)
     (count_at e.file_counts out.name) (base_of before out l) t)
 
@@ -195,11 +201,18 @@ abbrev pub Told : Disk → Disk → Option (List ℕ)
 Told d e cache P = IfSome d.files (λ b. IfSome d.folders (λ n. IfSome e.files (λ a. (cs : List (Map (List ℕ)))
     × (map n (folder_of cache) ≡ map Some cs) × P b a n cs)))
 
--- nothing fails. Where there is a cache, the folders also have, of each id that the index lists with several sizes,
--- chunks of one size alone
-abbrev pub Undisturbed : Disk → Disk → Option (List ℕ) → Listing → List (Map (List ℕ)) → List (Map (List ℕ)) → Type 0
-Undisturbed d e cache l cs fs = DiskQuiet d e
-    × (IsSome cache → GiveOneSize (IsListedAs l) (kind_of l) (map chunks cs ++ map chunks fs))
+-- over these folders, if one member of a group gives a listed chunk, all members of that group do
+abbrev pub AgreeOnListed : Map (Map (List ℕ)) → ExtractStores → Listing → Type 0
+AgreeOnListed n stores l = (id : List ℕ) (size : ℕ) → IsListedAs l id size
+    → GroupsAgree (λ f. GivesChunk (kind_of l) id size (chunks f id)) (map (member_files stores.sure n) stores.groups)
+
+-- nothing fails, and the stores of each group agree. Where there is a cache, the folders also have, of each id that the
+-- index lists with several sizes, chunks of one size alone
+pub record Undisturbed (d e : Disk) (n : Map (Map (List ℕ))) (stores : ExtractStores) (cache : Option (List ℕ))
+    (l : Listing) (cs fs : List (Map (List ℕ))) : Type 0 where
+  pub quiet : DiskQuiet d e
+  pub agree : AgreeOnListed n stores l
+  pub one_size : IsSome cache → GiveOneSize (IsListedAs l) (kind_of l) (map chunks cs ++ map chunks fs)
 
 -- entry k is named, for this reason, each before it is right, and what isn't the base's can be obtained. Where stores
 -- are folders, undisturbed, k is the least that can't be obtained, and each that can be obtained was made right
@@ -208,10 +221,11 @@ abbrev pub StopsLacking : Storage → Storage → ExtractStores → Option (List
 StopsLacking w v stores cache out l x k id r = Told w.disk v.disk cache (λ b a n cs.
     ((t : List ℕ) × KeepsIn w.disk v.disk b a out l t × ((i : ℕ) → i < k → IsRightAt t l i)
     × OnlyHad w.disk v.disk b n cs stores out l x t
-    × WhereFolders n stores (λ fs. Undisturbed w.disk v.disk cache l cs fs
+    × WhereMembers n stores (λ fs. Undisturbed w.disk v.disk n stores cache l cs fs
     → AreFilled l (HadFrom b out l x cs fs) (base_of b out l) t))
     × IsLacking w v b n cache out l x stores k id r
-    × WhereFolders n stores (λ fs. Undisturbed w.disk v.disk cache l cs fs → IsLeast (HadFrom b out l x cs fs) k))
+    × WhereMembers n stores (λ fs. Undisturbed w.disk v.disk n stores cache l cs fs
+    → IsLeast (HadFrom b out l x cs fs) k))
 
 -- the first store that failed is named, where no store gave the chunk of some entry
 abbrev pub StopsFailed : Storage → Storage → ExtractStores → Listing → ℕ → Type 0
@@ -226,7 +240,7 @@ abbrev pub Assembled : Storage → Storage → ExtractStores → Option (List �
     → Result Unit Outcome → Type 0
 Assembled w v stores cache out l x (Ok u) = Told w.disk v.disk cache (λ b a n cs.
     ((t : List ℕ) × KeepsIn w.disk v.disk b a out l t × IsRight t l)
-    × WhereFolders n stores (λ fs. (i : ℕ) → i < count_of l → HadFrom b out l x cs fs i))
+    × WhereMembers n stores (λ fs. (i : ℕ) → i < count_of l → HadFrom b out l x cs fs i))
 Assembled w v stores cache out l x (Err (ends.Missing k id)) = StopsLacking w v stores cache out l x k id
     refused.Missing
 Assembled w v stores cache out l x (Err (ends.Damaged k id store shows)) = StopsLacking w v stores cache out l x k id
@@ -271,7 +285,7 @@ answer_of_taking io.Memory = Err ends.Memory
 abbrev pub IsForCache : Listing → Map (Map (List ℕ)) → ExtractStores → List ℕ → List ℕ → Type 0
 IsForCache l n stores id b = (i : ℕ) × (i < count_of l) × (id ≡ id_of l i)
     × IsChunk (kind_of l) (id_of l i) (size_of l i) b
-    × WhereFolders n stores (λ fs. Any (λ m. m (id_of l i) ≡ Some b) (map chunks fs))
+    × WhereMembers n stores (λ fs. Any (λ m. m (id_of l i) ≡ Some b) (map chunks fs))
 
 -- chunks were added to a folder: under each id it holds what it held, or such bytes. Each file that is neither a
 -- chunk's nor a temporary one stands as before

@@ -253,6 +253,8 @@ impl<D: Dial> Store for HttpStore<D> {
 
     ghost holds = { λ _. None };
 
+    ghost members = { λ _. None };
+
     ghost said = { λ s. said_on s.server (D.state s.dial).ended };
 
     ghost sent = { λ s. sent_on s.server (D.state s.dial).ended };
@@ -282,6 +284,10 @@ impl<D: Dial> Store for HttpStore<D> {
         id_has_32_bytes(id);
         self.find(id)
     }
+
+    ghost alone = { λ _. tt };
+
+    ghost vouched = { λ _. tt };
 
     ghost says = { λ _. tt };
 

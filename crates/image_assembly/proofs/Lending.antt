@@ -20,15 +20,16 @@ use Rattle.assembler.specs.declared.fault.ExtractFault.{ExtractFault}
 use Rattle.assembler.specs.declared.fault.ExtractFault.TheVariants as faults
 use Rattle.cache_store.specs.Shelves.{Shelf}
 use Rattle.caibx_codec.specs.Asks.{IsListedGet}
-use Rattle.caibx_codec.specs.Listing.{Listing, count_of, image_length, size_of}
+use Rattle.caibx_codec.specs.Listing.{Listing, count_of, image_length, size_of, kind_of}
 use Rattle.chunk_sources.proofs.Lacking.{quiet_never}
 use Rattle.chunk_sources.specs.Asks.{AsksAtMost, asks_below, asks_for, calls_below, calls_for, others_spared}
 use Rattle.chunk_sources.proofs.Cached.{stocked_none}
-use Rattle.chunk_sources.specs.Caches.{CacheGives, Stocked, TakesListed, given_maps}
+use Rattle.chunk_sources.specs.Caches.{CacheGives, Stocked, TakesListed, given_maps, IsListedAs}
 use Rattle.chunk_sources.specs.Economy.{source_of, all_asks, pass_asks, source_if, sum_below}
 use Rattle.chunk_sources.specs.Sources.{Sources, SourcesQuiet, Telling, sources, views_of}
 use Rattle.chunk_sources.specs.Wants.{Task}
 use Rattle.chunk_sources.specs.declared.kit.Kit.{Kit}
+use Rattle.chunk_store.specs.Members.{maps_of}
 use Rattle.chunk_store.specs.declared.id.DigestKind.{DigestKind}
 use Rattle.chunk_store.specs.declared.store.Store.{Ghosts as StoreWords}
 use Rattle.dsy_base.specs.Bytes.{Held, held_resized, resized}
@@ -39,7 +40,7 @@ use Rattle.extract_plan.specs.Deal.{Deal, first_of, want_id}
 use Rattle.extract_plan.specs.declared.seed.Seed.{Seed}
 use Rattle.image_workers.specs.Beside.{PermitsWith}
 use Rattle.image_workers.specs.Kits.{AreKitsAlike, AsksDealt, IsAssembledBy, IsSparedFor, IsUnshared, KitUsed, KnowsFaults, NoneUsed, SomeKitHas, at_kit, dealt_asks, worker_asks, worker_calls}
-use Rattle.image_workers.specs.Shared.{all_stores, all_told, door_shelf}
+use Rattle.image_workers.specs.Shared.{all_stores, door_shelf}
 use Rattle.image_assembly.specs.Readied.{Permits}
 use Rattle.owned_shards.specs.Wholes.{base_told}
 use Rattle.range_ledger.specs.Fills.{WhereTold}
@@ -287,10 +288,10 @@ module _ {S V : Type 0} (ms xs : List (Kit S V)) (chains : map (λ k. k.chain) m
 
 module _ {S V : Type 0} (store : StoreWords S) (view : ViewWords V) (ms xs : List (Kit S V)) (chains : map (λ k. k.chain) ms ≡ map (λ k. k.chain) xs) (seeds : map (λ k. k.seeds) ms ≡ map (λ k. k.seeds) xs) where
   abbrev Tells : Chained S → List (Seed V) → Type 0
-  Tells c s = Telling view.tells (views_of view s) × ((maps : List (Map (List ℕ))) × (map store.holds c.stores ≡ map Some maps))
+  Tells c s = Telling view.tells (views_of view s) × ((maps : List (Map (List ℕ))) × (maps_of store.members c.stores ≡ Some maps))
 
   abbrev Has : Task → List (Map (List ℕ)) → List ℕ → ℕ → Chained S → List (Seed V) → Type 0
-  Has t cached y i c s = (maps : List (Map (List ℕ))) × (map store.holds c.stores ≡ map Some maps) × IsObtainable t (resized y (image_length t.listing)) (views_of view s) (cached ++ maps) i
+  Has t cached y i c s = (maps : List (Map (List ℕ))) × (maps_of store.members c.stores ≡ Some maps) × IsObtainable t (resized y (image_length t.listing)) (views_of view s) (cached ++ maps) i
 
   long : length ms ≡ length xs
   long = as_long ms xs chains seeds
@@ -314,8 +315,8 @@ module _ {S V : Type 0} (store : StoreWords S) (view : ViewWords V) (ms xs : Lis
     digest = is.digest;
     shelf = is.shelf;
     listed = is.listed;
-    stores = is.stores ∙ ap (λ (ys : List S). all_told (map store.holds ys)) (sym same_stores);
-    each = all_same ms xs chains seeds (λ c s. PermitsWith view.tells r t (views_of view s) (given_maps (door_shelf kind first pairs maps 0 cache)) (map store.holds c.stores)) is.each;
+    stores = is.stores ∙ ap (λ (ys : List S). maps_of store.members ys) (sym same_stores);
+    each = all_same ms xs chains seeds (λ c s. PermitsWith view.tells r t (views_of view s) (given_maps (door_shelf kind first pairs maps 0 cache)) (maps_of store.members c.stores)) is.each;
     had = λ all cached told. some_more (base_told r) (λ y has i inside may. any_same ms xs chains seeds (Has t cached y i) (has i inside may))
         (is.had (all_same xs ms (sym chains) (sym seeds) Tells all) cached told);
   }
@@ -337,11 +338,11 @@ module _ {S V : Type 0} (store : StoreWords S) (view : ViewWords V) (ms xs : Lis
       reported = λ unshared sure alike q j cached maps quiet one. subst (λ (s : Sources S V). IfSome o (λ y. IfOk answer (ReportsExactly
           (source_of t (resized y (image_length t.listing)) (views_of view s.seeds) cached maps) t.plan.wants))) (sources_at ms xs chains seeds f e 0 q)
           (is.reported (unshared_too unshared) sure (alike_too alike) q j cached maps
-          (λ k less. subst (λ (s : Sources S V). SourcesQuiet store view s (at_kit new k j) cached maps) (sym (sources_at ms xs chains seeds f e k q)) (quiet k (omega (arith, less, long)))) one);
+          (λ k less. subst (λ (s : Sources S V). SourcesQuiet store view (kind_of t.listing) (IsListedAs t.listing) s (at_kit new k j) cached maps) (sym (sources_at ms xs chains seeds f e k q)) (quiet k (omega (arith, less, long)))) one);
       shared = λ sure calm alike q j cached maps quiet one. subst (λ (s : Sources S V). IfSome o (λ y. IfOk answer (ReportsTogether
           (source_of t (resized y (image_length t.listing)) (views_of view s.seeds) cached maps) t.plan.wants))) (sources_at ms xs chains seeds f e 0 q)
           (is.shared sure calm (alike_too alike) q j cached maps
-          (λ k less. subst (λ (s : Sources S V). SourcesQuiet store view s (at_kit new k j) cached maps) (sym (sources_at ms xs chains seeds f e k q)) (quiet k (omega (arith, less, long)))) one);
+          (λ k less. subst (λ (s : Sources S V). SourcesQuiet store view (kind_of t.listing) (IsListedAs t.listing) s (at_kit new k j) cached maps) (sym (sources_at ms xs chains seeds f e k q)) (quiet k (omega (arith, less, long)))) one);
       kept = is.kept;
       stocked = subst (λ (ys : List S). Stocked (TakesListed store t.listing ys) e new.cache) same_stores is.stocked;
       first = λ why q. subst (λ (s : Sources S V). Stocked (TakesListed store t.listing s.chain.stores) e new.cache) (sources_at ms xs chains seeds f e 0 q) (is.first (elim why [
@@ -375,8 +376,8 @@ module _ {S V : Type 0} (store : StoreWords S) (view : ViewWords V) (ms xs : Lis
         kind = used.kind;
       }
 
-      holds_at : (k : ℕ) (q : Kit S V) → map store.holds (slice_index_or ms k q).chain.stores ≡ map store.holds (slice_index_or xs k q).chain.stores
-      holds_at k q = ap (λ (c : Chained S). map store.holds c.stores) (chain_at ms xs chains seeds k q)
+      members_at : (k : ℕ) (q : Kit S V) → map store.members (slice_index_or ms k q).chain.stores ≡ map store.members (slice_index_or xs k q).chain.stores
+      members_at k q = ap (λ (c : Chained S). map store.members c.stores) (chain_at ms xs chains seeds k q)
 
       views_at : (k : ℕ) (q : Kit S V) → views_of view (slice_index_or ms k q).seeds.items ≡ views_of view (slice_index_or xs k q).seeds.items
       views_at k q = ap (λ s. views_of view s.items) (seeds_at ms xs chains seeds k q)
@@ -384,4 +385,4 @@ module _ {S V : Type 0} (store : StoreWords S) (view : ViewWords V) (ms xs : Lis
       alike_too : AreKitsAlike store view t xs → AreKitsAlike store view t ms
       alike_too alike k q less =
           let so = alike k q (omega (arith, less, long)) in
-          (views_at k q ∙ so.0 ∙ sym (views_at 0 q), holds_at k q ∙ so.1 ∙ sym (holds_at 0 q))
+          (views_at k q ∙ so.0 ∙ sym (views_at 0 q), members_at k q ∙ so.1 ∙ sym (members_at 0 q))

@@ -1,6 +1,6 @@
 -- Which entries an assembly may fill: with one kit each of them. With more those that one of the kits has, as far as the
 -- target, the seeds, the cache and the stores tell.
-use Rattle.std.proofs.Common.{ℕ, ◌==◌, ◌||◌, ◌++◌, List, length, map, Bool, true, if◌then◌else◌, Option, Some, None, is_some}
+use Rattle.std.proofs.Common.{ℕ, ◌==◌, ◌||◌, ◌++◌, List, length, Bool, true, if◌then◌else◌, Option, Some, None, is_some}
 use Rattle.std.specs.List.{list_any}
 use Rattle.std.specs.Option.{option_map}
 use Rattle.assembler.specs.Passes.{want_at}
@@ -9,13 +9,13 @@ use Rattle.chunk_sources.specs.Economy.{seeds_give, stores_give}
 use Rattle.chunk_sources.specs.Sources.{views_of}
 use Rattle.chunk_sources.specs.Wants.{Task}
 use Rattle.chunk_sources.specs.declared.kit.Kit.{Kit}
+use Rattle.chunk_store.specs.Members.{maps_of}
 use Rattle.chunk_store.specs.declared.store.Store.{Ghosts as StoreWords}
 use Rattle.dsy_base.specs.Bytes.{Held}
 use Rattle.dsy_base.specs.Maps.{Map}
 use Rattle.dsy_base.specs.declared.view.View.{Ghosts as ViewWords}
 use Rattle.extract_plan.specs.Deal.{first_of, of_want, shards_of, want_id}
 use Rattle.extract_plan.specs.Places.{places_at}
-use Rattle.image_workers.specs.Shared.{all_told}
 use Rattle.range_ledger.specs.Runs.{Run}
 use Rattle.range_survey.specs.Fates.{is_right_at}
 
@@ -44,7 +44,7 @@ module _ {S V : Type 0} (store : StoreWords S) (view : ViewWords V) where
   -- the maps that the cache and the stores of a kit hold, where they and its seeds tell
   abbrev pub kit_maps : Option (List (Map (List ℕ))) → Kit S V → Option (List (Map (List ℕ)))
   kit_maps cached k = if seeds_tell view.tells (views_of view k.seeds.items)
-      then both_told cached (all_told (map store.holds k.chain.stores))
+      then both_told cached (maps_of store.members k.chain.stores)
       else None
 
   -- whether one of the kits may have want w

@@ -1,5 +1,5 @@
 -- The run that an assembly picks permits what it has to, and no more.
-use Rattle.std.proofs.Common.{◌≡◌, ◌⊎◌, ◌≤◌, ◌||◌, ◌==◌, ℕ, ◌<◌, List, [], ◌∷◌, ◌++◌, length, map, take, replicate, ◌-◌, Bool, true, false, Decides, Option, Some, None, All, IfSome, IsTrue, is_some, if◌then◌else◌, slice_index_or, refl, sym, ap, subst, ◌∙◌, inl, inr, arith}
+use Rattle.std.proofs.Common.{◌≡◌, ◌⊎◌, ◌≤◌, ◌||◌, ◌==◌, ℕ, ◌<◌, List, [], ◌∷◌, ◌++◌, length, take, replicate, ◌-◌, Bool, true, false, Decides, Option, Some, None, All, IfSome, IsTrue, is_some, if◌then◌else◌, slice_index_or, refl, sym, ap, subst, ◌∙◌, inl, inr, arith}
 use Rattle.std.proofs.lemmas.Bool.{cases_Bool, eq-eqb, eqb-true, false≢true, true≢false}
 use Rattle.std.proofs.lemmas.Bool.Decides.{Decides-or}
 use Rattle.std.proofs.lemmas.List.{append-nil, get_or_default, length-append, length-replicate, length-take, take_all}
@@ -25,6 +25,7 @@ use Rattle.chunk_sources.specs.declared.kit.Kit.{Kit}
 use Rattle.chunk_store.specs.Folders.{chunks}
 use Rattle.chunk_store.specs.Giving.{GivesChunk}
 use Rattle.chunk_store.specs.Digests.{digest_of}
+use Rattle.chunk_store.specs.Members.{maps_of}
 use Rattle.chunk_store.specs.declared.id.DigestKind.{DigestKind}
 use Rattle.chunk_store.specs.declared.store.Store.{Ghosts as StoreWords}
 use Rattle.dsy_base.specs.Bytes.{Held, resized}
@@ -34,9 +35,8 @@ use Rattle.extract_plan.specs.Deal.{AreWants, first_of, of_want, want_id}
 use Rattle.extract_plan.specs.Places.{places_at}
 use Rattle.image_workers.proofs.Doors.{named_opens}
 use Rattle.image_workers.proofs.Sharing.{kit_of, mute_kit}
-use Rattle.image_workers.proofs.Telling.{all_are, told_all}
 use Rattle.image_workers.specs.Beside.{MayFillAlike, PermitsKit}
-use Rattle.image_workers.specs.Shared.{NamesShelf, all_stores, all_told, door_shelf, pairs_of}
+use Rattle.image_workers.specs.Shared.{NamesShelf, all_stores, door_shelf, pairs_of}
 use Rattle.image_workers.specs.Kits.{MayFillFrom, SomeKitHas}
 use Rattle.image_assembly.specs.Readied.{Permits}
 use Rattle.image_assembly.proofs.Picking.{both_told, kit_maps, may_fill, may_have, picked, seeds_tell, some_may_have, want_had}
@@ -180,15 +180,15 @@ module _ (t : Task) (base : List ℕ) (wants : AreWants t.listing t.plan.wants t
     test w k = may_have t base (views_at k) (kit_maps store view cached_now k) w
 
     -- what a kit tells that tells all
-    kit_tells : (k : Kit S V) (all : List (Map (List ℕ))) → kit_maps store view cached_now k ≡ Some all → Telling view.tells (views_at k) × BothTold cached_now (all_told (map store.holds k.chain.stores)) all
+    kit_tells : (k : Kit S V) (all : List (Map (List ℕ))) → kit_maps store view cached_now k ≡ Some all → Telling view.tells (views_at k) × BothTold cached_now (maps_of store.members k.chain.stores) all
     kit_tells k all is =
-        let both = some_if (seeds_tell view.tells (views_at k)) (both_told cached_now (all_told (map store.holds k.chain.stores))) all is in
-        (telling_of view.tells (views_at k) both.0, both_are cached_now (all_told (map store.holds k.chain.stores)) all both.1)
+        let both = some_if (seeds_tell view.tells (views_at k)) (both_told cached_now (maps_of store.members k.chain.stores)) all is in
+        (telling_of view.tells (views_at k) both.0, both_are cached_now (maps_of store.members k.chain.stores) all both.1)
 
-    maps_told : (k : Kit S V) (held maps : List (Map (List ℕ))) → Telling view.tells (views_at k) → cached_now ≡ Some held → map store.holds k.chain.stores ≡ map Some maps → kit_maps store view cached_now k ≡ Some (held ++ maps)
+    maps_told : (k : Kit S V) (held maps : List (Map (List ℕ))) → Telling view.tells (views_at k) → cached_now ≡ Some held → maps_of store.members k.chain.stores ≡ Some maps → kit_maps store view cached_now k ≡ Some (held ++ maps)
     maps_told k held maps telling cache told =
-        if_so (seeds_tell view.tells (views_at k)) (both_told cached_now (all_told (map store.holds k.chain.stores))) None (tells_of view.tells (views_at k) telling)
-        ∙ ap (λ o. both_told o (all_told (map store.holds k.chain.stores))) cache ∙ ap (option_map (λ ms. held ++ ms)) (ap all_told told ∙ told_all maps)
+        if_so (seeds_tell view.tells (views_at k)) (both_told cached_now (maps_of store.members k.chain.stores)) None (tells_of view.tells (views_at k) telling)
+        ∙ ap (λ o. both_told o (maps_of store.members k.chain.stores)) cache ∙ ap (option_map (λ ms. held ++ ms)) told
 
     -- one of the kits may have what is tested so
     some_kit : (w n : ℕ) (k : Kit S V) → n < length kits → slice_index_or kits n k ≡ k → test w k ≡ true → some_may_have store view t base cached_now kits w ≡ true
@@ -198,18 +198,18 @@ module _ (t : Task) (base : List ℕ) (wants : AreWants t.listing t.plan.wants t
     mute_has : (w : ℕ) (k : Kit S V) → kit_maps store view cached_now k ≡ None → test w k ≡ true
     mute_has w k none = ap (λ o. may_have t base (views_at k) o w) none
 
-    mute_maps : (k : Kit S V) → all_told (map store.holds k.chain.stores) ≡ None → kit_maps store view cached_now k ≡ None
+    mute_maps : (k : Kit S V) → maps_of store.members k.chain.stores ≡ None → kit_maps store view cached_now k ≡ None
     mute_maps k mute = go (seeds_tell view.tells (views_at k)) where
-      go : (b : Bool) → (if b then both_told cached_now (all_told (map store.holds k.chain.stores)) else None) ≡ None
-      go true = both_mute cached_now (all_told (map store.holds k.chain.stores)) mute
+      go : (b : Bool) → (if b then both_told cached_now (maps_of store.members k.chain.stores) else None) ≡ None
+      go true = both_mute cached_now (maps_of store.members k.chain.stores) mute
       go false = refl
 
     -- a kit whose stores hold the chunk may have it
-    gives_has : (w : ℕ) (k : Kit S V) (maps : List (Map (List ℕ))) → map store.holds k.chain.stores ≡ map Some maps
+    gives_has : (w : ℕ) (k : Kit S V) (maps : List (Map (List ℕ))) → maps_of store.members k.chain.stores ≡ Some maps
         → SomeGives (kind_of t.listing) (want_id t.listing t.plan w) (size_of t.listing (first_of t.plan w)) maps → test w k ≡ true
     gives_has w k maps told gives = have_when (views_at k) (kit_maps store view cached_now k) w (λ all is.
         let b = (kit_tells k all is).1 in
-        let same : b.given ≡ maps = same_Some b.given maps (sym b.stores ∙ ap all_told told ∙ told_all maps) in
+        let same : b.given ≡ maps = same_Some b.given maps (sym b.stores ∙ told) in
         (had_decides (views_at k) all w).1 (inr (inr (subst (λ ms. SomeGives (kind_of t.listing) (want_id t.listing t.plan w) (size_of t.listing (first_of t.plan w)) ms) (sym b.whole)
         (gives_right (kind_of t.listing) (want_id t.listing t.plan w) (size_of t.listing (first_of t.plan w)) b.held b.given
         (subst (λ ms. SomeGives (kind_of t.listing) (want_id t.listing t.plan w) (size_of t.listing (first_of t.plan w)) ms) (sym same) gives))))))
@@ -226,7 +226,7 @@ module _ (t : Task) (base : List ℕ) (wants : AreWants t.listing t.plan.wants t
       Fits w ms = SomeGives (kind_of t.listing) (want_id t.listing t.plan w) (size_of t.listing (first_of t.plan w)) ms
 
       -- all of it can be obtained with this kit, or it stands in another kit's store
-      had_by_some : (i : ℕ) → i < count_of t.listing → (held ms own all : List (Map (List ℕ))) → all ≡ held ++ own → map store.holds (all_stores kits) ≡ map Some ms
+      had_by_some : (i : ℕ) → i < count_of t.listing → (held ms own all : List (Map (List ℕ))) → all ≡ held ++ own → maps_of store.members (all_stores kits) ≡ Some ms
           → IsObtainable t base (views_at kit_here) ((held ++ ms) ++ own) i
           → (want_had t base (views_at kit_here) all (want_at t.plan i) ≡ true) ⊎ (some_may_have store view t base cached_now kits (want_at t.plan i) ≡ true)
       had_by_some i inside held ms own all whole told can = elim ((had_decides (views_at kit_here) ((held ++ ms) ++ own) (want_at t.plan i)).0 (had_of (views_at kit_here) ((held ++ ms) ++ own) i inside can)) [
@@ -257,21 +257,21 @@ module _ (t : Task) (base : List ℕ) (wants : AreWants t.listing t.plan.wants t
           λ more. inl (ap (λ zs. zs ++ ms) (sym at.2)),
         )
 
-    pub permits_each : (kind : DigestKind) (first : Option (Map (List ℕ))) (pairs : Option (List (List ℕ × ℕ))) (maps : Option (List (Map (List ℕ)))) → IfSome c0 (λ s. first ≡ s.files) → maps ≡ all_told (map store.holds (all_stores kits))
+    pub permits_each : (kind : DigestKind) (first : Option (Map (List ℕ))) (pairs : Option (List (List ℕ × ℕ))) (maps : Option (List (Map (List ℕ)))) → IfSome c0 (λ s. first ≡ s.files) → maps ≡ maps_of store.members (all_stores kits)
         → All (PermitsKit store view (picked store view tells t base cached_now kits) t (door_shelf kind first pairs maps 0 c0)) kits
     permits_each kind first pairs maps opens stores n q less = λ i inside so.
         let w = want_at t.plan i in
         let k = slice_index_or kits n q in
         elim (cases_Bool (may_fill store view tells t base cached_now kits w)) [
           | inl is ↦ is
-          | inr isnt ↦ may_when tells (length kits == 1) (some_may_have store view t base cached_now kits w) (λ told. some_told i inside isnt told so (all_told (map store.holds (all_stores kits))) refl)
+          | inr isnt ↦ may_when tells (length kits == 1) (some_may_have store view t base cached_now kits w) (λ told. some_told i inside isnt told so (maps_of store.members (all_stores kits)) refl)
         ]
       where
         some_told : (i : ℕ) → i < count_of t.listing → may_fill store view tells t base cached_now kits (want_at t.plan i) ≡ false → tells ≡ true
             → (IsTrue tells → Telling view.tells (views_at (slice_index_or kits n q)) → (given own : List (Map (List ℕ))) → given_maps (door_shelf kind first pairs maps 0 c0) ≡ Some given
-            → map store.holds (slice_index_or kits n q).chain.stores ≡ map Some own
+            → maps_of store.members (slice_index_or kits n q).chain.stores ≡ Some own
             → IsObtainable t base (views_at (slice_index_or kits n q)) (given ++ own) i ⊎ MayFillAlike (picked store view tells t base cached_now kits) t i)
-            → (o : Option (List (Map (List ℕ)))) → all_told (map store.holds (all_stores kits)) ≡ o → some_may_have store view t base cached_now kits (want_at t.plan i) ≡ true
+            → (o : Option (List (Map (List ℕ)))) → maps_of store.members (all_stores kits) ≡ o → some_may_have store view t base cached_now kits (want_at t.plan i) ≡ true
         some_told i inside isnt told so None is =
             let m = mute_kit store kits is in
             some_kit (want_at t.plan i) m.at m.kit m.inside m.is (mute_has (want_at t.plan i) m.kit (mute_maps m.kit m.mute))
@@ -279,8 +279,8 @@ module _ (t : Task) (base : List ℕ) (wants : AreWants t.listing t.plan.wants t
             (have_when (views_at (slice_index_or kits n q)) (kit_maps store view cached_now (slice_index_or kits n q)) (want_at t.plan i) (λ all are.
             let tell = kit_tells (slice_index_or kits n q) all are in
             let b = tell.1 in
-            let own_told : map store.holds (slice_index_or kits n q).chain.stores ≡ map Some b.given = all_are (map store.holds (slice_index_or kits n q).chain.stores) b.given b.stores in
-            let all_stores_told : map store.holds (all_stores kits) ≡ map Some ms = all_are (map store.holds (all_stores kits)) ms is in
+            let own_told : maps_of store.members (slice_index_or kits n q).chain.stores ≡ Some b.given = b.stores in
+            let all_stores_told : maps_of store.members (all_stores kits) ≡ Some ms = is in
             let door = door_gives kind first pairs maps c0 opens b.held ms b.cache (stores ∙ is) in
             elim (so told tell.0 door.0 b.given door.1 own_told) [
               | inl can ↦ elim (had_by_some n q less i inside b.held ms b.given all b.whole all_stores_told (elim (door.2 ms) [
@@ -312,7 +312,7 @@ module _ (t : Task) (base : List ℕ) (wants : AreWants t.listing t.plan.wants t
         let several : (length kits == 1) ≡ false = not_one (length kits) many in
         let a = Any-from_list_any (test w) kits (may_then tells (length kits == 1) (some_may_have store view t base cached_now kits w) told several may) in
         let k = a.1 in
-        let knows = subst (λ (q : Kit S V). Telling view.tells (views_of view q.seeds.items) × ((maps : List (Map (List ℕ))) × (map store.holds q.chain.stores ≡ map Some maps))) a.3 (all a.0 a.1 a.2) in
+        let knows = subst (λ (q : Kit S V). Telling view.tells (views_of view q.seeds.items) × ((maps : List (Map (List ℕ))) × (maps_of store.members q.chain.stores ≡ Some maps))) a.3 (all a.0 a.1 a.2) in
         let maps = knows.1.0 in
         let had : want_had t base (views_of view k.seeds.items) (cached ++ maps) w ≡ true =
         subst (λ o. may_have t base (views_of view k.seeds.items) o w ≡ true) (maps_told k cached maps knows.0 cache knows.1.1) a.4 in (
@@ -335,7 +335,7 @@ module _ (t : Task) (base : List ℕ) (wants : AreWants t.listing t.plan.wants t
         ]
 
     pub picked_permits : (tells ≡ true → length base ≡ image_length t.listing) → 2 ≤ length kits → (kind : DigestKind) → kind ≡ kind_of t.listing → (first : Option (Map (List ℕ))) (taken : List ℕ) (failed : ℕ) (pairs : Option (List (List ℕ × ℕ)))
-        (maps : Option (List (Map (List ℕ)))) → IfSome c0 (NamesShelf kind first taken failed) → pairs ≡ Some (pairs_of t.listing) → maps ≡ all_told (map store.holds (all_stores kits))
+        (maps : Option (List (Map (List ℕ)))) → IfSome c0 (NamesShelf kind first taken failed) → pairs ≡ Some (pairs_of t.listing) → maps ≡ maps_of store.members (all_stores kits)
         → Permits store view (picked store view tells t base cached_now kits) t kits kind first taken failed pairs maps c0
     picked_permits sized many kind digest first taken failed pairs maps names listed stores = record {
       digest = digest;

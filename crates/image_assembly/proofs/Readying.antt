@@ -1,5 +1,5 @@
 -- What a prepared assembly is ready for.
-use Rattle.std.proofs.Common.{◌≡◌, ◌<◌, ◌≤◌, ◌++◌, ℕ, List, Any, Bool, true, Option, Some, None, IfSome, IsTrue, is_some, length, map, refl, slice_index_or, sym, ap, subst, ◌∙◌, inl}
+use Rattle.std.proofs.Common.{◌≡◌, ◌<◌, ◌≤◌, ◌++◌, ℕ, List, Any, Bool, true, Option, Some, None, IfSome, IsTrue, is_some, length, refl, slice_index_or, sym, ap, subst, ◌∙◌, inl}
 use Rattle.std.specs.Option.{option_map}
 use Rattle.assembler.specs.Assemblies.{IsObtainable}
 use Rattle.assembler.specs.Stages.{Ready}
@@ -9,6 +9,7 @@ use Rattle.chunk_sources.specs.Caches.{given_maps}
 use Rattle.chunk_sources.specs.Sources.{views_of}
 use Rattle.chunk_sources.specs.Wants.{Task}
 use Rattle.chunk_sources.specs.declared.kit.Kit.{Kit}
+use Rattle.chunk_store.specs.Members.{maps_of}
 use Rattle.chunk_store.specs.declared.id.DigestKind.{DigestKind}
 use Rattle.chunk_store.specs.declared.store.Store.{Ghosts as StoreWords}
 use Rattle.dsy_base.specs.Bytes.{Held, held_resized, resized}
@@ -103,7 +104,7 @@ module _ {S V : Type 0} (store : StoreWords S) (view : ViewWords V) (r : Run) (t
           ready = ready_kit k q less (worker_stage r x.whole.fates 0 e0 kit).held 0 x.whole.fates e0 (subst (λ (e : Option Shelf). IfSome e (λ s. s.kind ≡ kind_of x.task.listing)) (sym door_is)
               (subst (λ (l : Listing). IfSome (door store r.listing x.kits first cache) (λ s. s.kind ≡ kind_of l)) (sym is.listing) (door_kind store r.listing x.kits first cache)));
           adds = subst (λ (e : Option Shelf). MayAddFrom store r.listing kit.chain.stores e) (sym door_is) (door_adds store r.listing x.kits first cache k q less);
-          may = permits r x.task.plan x.task.places wants_so store view (views_of view kit.seeds.items) (given_maps e0) (map store.holds kit.chain.stores) (permits_at k q less) (worker_stage r x.whole.fates 0 e0 kit)
+          may = permits r x.task.plan x.task.places wants_so store view (views_of view kit.seeds.items) (given_maps e0) (maps_of store.members kit.chain.stores) (permits_at k q less) (worker_stage r x.whole.fates 0 e0 kit)
               (λ given told. (given, told, λ id n gives. gives)) refl refl
               (λ tells i inside so. inl (is.first.right tells i inside so)) _;
         }
@@ -126,7 +127,7 @@ module _ {S V : Type 0} (store : StoreWords S) (view : ViewWords V) (r : Run) (t
     -- what may be filled can be obtained over these bytes, with the image's length
     abbrev HadOver : List (Map (List ℕ)) → List ℕ → Type 0
     HadOver cached z = (i : ℕ) → i < count_of r.listing → r.may i ≡ true
-        → Any (λ (k : Kit S V). (maps : List (Map (List ℕ))) × (map store.holds k.chain.stores ≡ map Some maps) × IsObtainable t z (views_of view k.seeds.items) (cached ++ maps) i) x.kits
+        → Any (λ (k : Kit S V). (maps : List (Map (List ℕ))) × (maps_of store.members k.chain.stores ≡ Some maps) × IsObtainable t z (views_of view k.seeds.items) (cached ++ maps) i) x.kits
 
     abbrev Over : List (Map (List ℕ)) → List ℕ → Type 0
     Over cached y = HadOver cached (resized y (image_length r.listing))

@@ -1,5 +1,5 @@
 -- What stands once an assembly is prepared.
-use Rattle.std.specs.Prelude.{◌≡◌, ◌⊎◌, ℕ, ◌<◌, ◌≤◌, List, [], length, map, replicate, Bool, false, IfSome, Option}
+use Rattle.std.specs.Prelude.{◌≡◌, ◌⊎◌, ℕ, ◌<◌, ◌≤◌, List, [], length, replicate, Bool, false, IfSome, Option}
 use Rattle.std.specs.Prelude.{Some, is_some, vec_capacity, vec_len}
 use Rattle.std.specs.Global.{Vec}
 use Rattle.std.specs.List.{All}
@@ -7,6 +7,7 @@ use Rattle.assembler.specs.Begun.{HasBegun}
 use Rattle.assembler.specs.declared.fault.ExtractFault.{ExtractFault}
 use Rattle.assembler.specs.declared.fault.ExtractFault.TheVariants as faults
 use Rattle.cache_store.specs.Shelves.{Shelf}
+use Rattle.chunk_store.specs.Members.{maps_of}
 use Rattle.image_assembly.specs.declared.fault.PrepareFault.{PrepareFault}
 use Rattle.image_assembly.specs.declared.fault.PrepareFault.TheVariants as refusals
 use Rattle.caibx_codec.specs.Listing.{IsListedSize, Listing, count_of, image_length, kind_of, size_of}
@@ -22,7 +23,7 @@ use Rattle.extract_plan.specs.Places.{PlacesKnown}
 use Rattle.image_workers.specs.Beside.{PermitsKit}
 use Rattle.image_workers.specs.Kits.{MayFillFrom}
 use Rattle.image_workers.specs.Lanes.{AreFirst}
-use Rattle.image_workers.specs.Shared.{NamesShelf, all_stores, all_told, door_shelf, pairs_of}
+use Rattle.image_workers.specs.Shared.{NamesShelf, all_stores, door_shelf, pairs_of}
 use Rattle.owned_shards.specs.Wholes.{MayFillAll, Whole, base_told}
 use Rattle.range_ledger.specs.Runs.{Run}
 
@@ -42,7 +43,7 @@ pub record Permits {S V : Type 0} (store : StoreWords S) (view : ViewWords V) (r
   pub digest : kind ≡ kind_of t.listing
   pub shelf : IfSome cache (NamesShelf kind first taken failed)
   pub listed : pairs ≡ Some (pairs_of t.listing)
-  pub stores : maps ≡ all_told (map store.holds (all_stores kits))
+  pub stores : maps ≡ maps_of store.members (all_stores kits)
   pub each : All (PermitsKit store view r t (door_shelf kind first pairs maps 0 cache)) kits
   pub had : MayFillFrom store view t r.may (base_told r) cache kits
 

@@ -75,9 +75,11 @@ pub(crate) struct GatedStore {
 
 impl Store for GatedStore {
     ghost use Rattle.std.specs.Prelude.{[], true, false, refl};
-    ghost use Rattle.chunk_store.specs.Said.{says_map};
+    ghost use Rattle.chunk_store.specs.Said.{answers_alone, just_one, says_map, vouched_map};
 
     ghost holds = { λ s. ⟦<MemStore as Store>⟧.holds s.chunks };
+
+    ghost members = { λ s. just_one (⟦<MemStore as Store>⟧.holds s.chunks) };
 
     ghost said = { λ s. ⟦<MemStore as Store>⟧.said s.chunks };
 
@@ -108,6 +110,10 @@ impl Store for GatedStore {
     fn has(&mut self, id: &ChunkId) -> Result<bool, IoFault> {
         self.chunks.has(id)
     }
+
+    ghost alone = { λ s. answers_alone (⟦<MemStore as Store>⟧.holds s.chunks) };
+
+    ghost vouched = { λ s. vouched_map (⟦<MemStore as Store>⟧.holds s.chunks) };
 
     ghost says = { λ s. says_map (⟦<MemStore as Store>⟧.holds s.chunks) };
 

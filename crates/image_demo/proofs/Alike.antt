@@ -5,8 +5,8 @@ use Rattle.assembler.specs.Economy.{ReportsExactly}
 use Rattle.assembler.specs.OneKit.{lent}
 use Rattle.assembler.specs.declared.fault.ExtractFault.{ExtractFault}
 use Rattle.cache_store.specs.Shelves.{Shelf}
-use Rattle.caibx_codec.specs.Listing.{Listing, image_length}
-use Rattle.chunk_sources.specs.Caches.{TakesListed}
+use Rattle.caibx_codec.specs.Listing.{Listing, image_length, kind_of}
+use Rattle.chunk_sources.specs.Caches.{TakesListed, IsListedAs}
 use Rattle.chunk_sources.specs.Economy.{source_of}
 use Rattle.chunk_sources.specs.Sources.{SourcesQuiet, views_of}
 use Rattle.chunk_sources.specs.declared.kit.Kit.{Kit}
@@ -47,21 +47,25 @@ module _ {S V : Type 0} (kind : DigestKind) (s : S) (v : V) (kits : List (Kit S 
     seeds_hold : (n : ℕ) (k : Kit S V) → n < length kits → views_of view (slice_index_or kits n k).seeds.items ≡ Some (view.held v) ∷ []
     seeds_hold n k lt = ap (views_of view) (all n k lt).seeds
 
+    members_hold : (n : ℕ) (k : Kit S V) → n < length kits → map store.members (slice_index_or kits n k).chain.stores ≡ store.members s ∷ []
+    members_hold n k lt = ap (λ (c : Chained S). map store.members c.stores) (all n k lt).chain
+
     stores_hold : (n : ℕ) (k : Kit S V) → n < length kits → map store.holds (slice_index_or kits n k).chain.stores ≡ store.holds s ∷ []
     stores_hold n k lt = ap (λ (c : Chained S). map store.holds c.stores) (all n k lt).chain
 
     module _ (l : Listing) (x : Placed) (e d : Deal) (one : IsPlan l 1 e) (several : IsPlan l (length kits) d) (some : 1 ≤ length kits) (tells : IsTrue view.tells) (never cache_never : Bool) (sure : IsTrue never)
         (o p : Option (List ℕ)) (f0 f1 : ℕ) (new : List (Kit S V)) (e1 : Option Shelf) (r : Result Report ExtractFault) (done : IsAssembledBy store view (task_of l d x) never cache_never o p (lent f0 kits None) (lent f1 new e1) r)
-        (old_is : f0 ≡ 0) (new_is : f1 ≡ 0) (stores : (t : S) → store.faults t ≡ 0) (views : (w : V) → view.faults w ≡ 0) (chunks : Map (List ℕ)) (told : store.holds s ≡ Some chunks) where
+        (old_is : f0 ≡ 0) (new_is : f1 ≡ 0) (stores : (t : S) → store.faults t ≡ 0) (views : (w : V) → view.faults w ≡ 0) (chunks : Map (List ℕ)) (told : store.holds s ≡ Some chunks)
+        (alone : (t : S) → IfSome (store.holds t) (λ m. store.members t ≡ Some (m ∷ []))) where
       abbrev k : Kit S V
       k = first_of kits some
 
       alike : AreKitsAlike store view (task_of l d x) kits
-      alike = λ n q lt. (seeds_hold n q lt ∙ sym (seeds_hold 0 q (omega (arith, lt))), stores_hold n q lt ∙ sym (stores_hold 0 q (omega (arith, lt))))
+      alike = λ n q lt. (seeds_hold n q lt ∙ sym (seeds_hold 0 q (omega (arith, lt))), members_hold n q lt ∙ sym (members_hold 0 q (omega (arith, lt))))
 
-      quiet : (n : ℕ) → n < length kits → SourcesQuiet store view (at_kit (lent f0 kits None) n k) (at_kit (lent f1 new e1) n k) [] (chunks ∷ [])
+      quiet : (n : ℕ) → n < length kits → SourcesQuiet store view (kind_of l) (IsListedAs l) (at_kit (lent f0 kits None) n k) (at_kit (lent f1 new e1) n k) [] (chunks ∷ [])
       quiet n lt =
-          nothing_fails store view f0 f1 (slice_index_or kits n k).seeds.items (slice_index_or new n k).seeds.items e1 (slice_index_or kits n k).chain (slice_index_or new n k).chain (chunks ∷ []) (TakesListed store l (slice_index_or kits 0 k).chain.stores)
+          nothing_fails store view (kind_of l) (IsListedAs l) alone f0 f1 (slice_index_or kits n k).seeds.items (slice_index_or new n k).seeds.items e1 (slice_index_or kits n k).chain (slice_index_or new n k).chain (chunks ∷ []) (TakesListed store l (slice_index_or kits 0 k).chain.stores)
           tells old_is new_is stores views (done.first (inr alike) k) (stores_hold n k lt ∙ ap (λ (q : Option (Map (List ℕ))). q ∷ []) told)
 
       -- what holds by the plan for as many workers, over what the first kit's seeds hold, holds by the plan for one

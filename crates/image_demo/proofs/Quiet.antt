@@ -1,5 +1,5 @@
 -- An assembly from sources that never fail.
-use Rattle.std.proofs.Common.{◌≡◌, ℕ, zero, suc, List, [], ◌∷◌, map, slice_index, Option, Some, None, IsTrue, refl, arith, inl, inr, sym, subst, unwrap_or, Result, Ok, Err, ◌<◌}
+use Rattle.std.proofs.Common.{◌≡◌, ℕ, zero, suc, List, [], ◌∷◌, map, slice_index, Option, Some, None, IfSome, IsTrue, refl, arith, inl, inr, sym, subst, unwrap_or, Result, Ok, Err, ◌<◌}
 use Rattle.std.specs.Option.{option_map}
 use Rattle.assembler.specs.Faults.{fault_of}
 use Rattle.assembler.specs.Passes.{EndsBy}
@@ -9,7 +9,10 @@ use Rattle.cache_store.specs.Shelves.{Shelf}
 use Rattle.caibx_codec.specs.Listing.{Listing, count_of, id_of}
 use Rattle.chunk_sources.specs.Caches.{HaveOneSize, Stocked, cache_faults}
 use Rattle.chunk_sources.specs.Sources.{SourcesQuiet, sources}
+use Rattle.chunk_store.proofs.Members.{agree_alone, told_alone}
+use Rattle.chunk_store.specs.Giving.{GivesChunk}
 use Rattle.chunk_store.specs.declared.id.ChunkId.{ChunkId}
+use Rattle.chunk_store.specs.declared.id.DigestKind.{DigestKind}
 use Rattle.chunk_store.specs.declared.store.Store.{Ghosts as StoreWords}
 use Rattle.dsy_base.specs.Counts.{Quiet, Rose}
 use Rattle.dsy_base.specs.Maps.{Map}
@@ -44,16 +47,17 @@ no_cache Takes None h = refl
 no_cache Takes (Some s) h = absurd h
 
 module _ {S V : Type 0} (store : StoreWords S) (view : ViewWords V) where
-  pub nothing_fails : (old new : ℕ) (s0 s1 : List (Seed V)) (e1 : Option Shelf) (c0 c1 : Chained S) (maps : List (Map (List ℕ))) (Takes : List ℕ → List ℕ → Type 0)
+  pub nothing_fails : (kind : DigestKind) (Among : List ℕ → ℕ → Type 0) → ((s : S) → IfSome (store.holds s) (λ m. store.members s ≡ Some (m ∷ []))) → (old new : ℕ) (s0 s1 : List (Seed V)) (e1 : Option Shelf) (c0 c1 : Chained S) (maps : List (Map (List ℕ))) (Takes : List ℕ → List ℕ → Type 0)
       → IsTrue view.tells → old ≡ 0 → new ≡ 0 → ((s : S) → store.faults s ≡ 0) → ((v : V) → view.faults v ≡ 0) → Stocked Takes None e1 → map store.holds c0.stores ≡ map Some maps
-      → SourcesQuiet store view (sources old s0 None c0) (sources new s1 e1 c1) [] maps
-  nothing_fails old new s0 s1 e1 c0 c1 maps Takes t o n stores views none told = record {
+      → SourcesQuiet store view kind Among (sources old s0 None c0) (sources new s1 e1 c1) [] maps
+  nothing_fails kind Among alone old new s0 s1 e1 c0 c1 maps Takes t o n stores views none told = record {
     target = still old new o n;
     telling = λ _. t;
     seeds = all_still (faults_in view.faults) (seed_still view.faults views) s0 s1;
     told_cache = refl;
     cache = still 0 (cache_faults e1) refl (no_cache Takes e1 none);
-    told = told;
+    told = told_alone store.holds store.members alone c0.stores maps told;
+    agree = λ id size among. agree_alone store.holds store.members alone (λ m. GivesChunk kind id size (m id)) c0.stores maps told;
     stores = all_still store.faults stores c0.stores c1.stores;
   }
 

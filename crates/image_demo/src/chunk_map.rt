@@ -77,9 +77,11 @@ impl ChunkMap {
 impl<'a> Store for SharedChunks<'a> {
     ghost use Rattle.std.specs.Prelude.{Some, [], true, false, refl};
     ghost use Rattle.chunk_store.specs.MemStores.{bytes_by_id};
-    ghost use Rattle.chunk_store.specs.Said.{said_by, says_map};
+    ghost use Rattle.chunk_store.specs.Said.{answers_alone, just_one, said_by, says_map, vouched_map};
 
     ghost holds = { λ s. Some (bytes_by_id s.by_id.now) };
+
+    ghost members = { λ s. just_one (Some (bytes_by_id s.by_id.now)) };
 
     ghost said = { λ s. said_by (Some (bytes_by_id s.by_id.now)) };
 
@@ -110,6 +112,10 @@ impl<'a> Store for SharedChunks<'a> {
         Ok(self.by_id.contains_key(id))
     }
 
+    ghost alone = { λ s. answers_alone (Some (bytes_by_id s.by_id.now)) };
+
+    ghost vouched = { λ s. vouched_map (Some (bytes_by_id s.by_id.now)) };
+
     ghost says = { λ s. says_map (Some (bytes_by_id s.by_id.now)) };
 
     ghost lies = { λ _. tt };
@@ -126,9 +132,11 @@ impl<'a> Store for SharedChunks<'a> {
 impl Store for ChunkMap {
     ghost use Rattle.std.specs.Prelude.{Some, [], true, false, refl};
     ghost use Rattle.chunk_store.specs.MemStores.{bytes_by_id};
-    ghost use Rattle.chunk_store.specs.Said.{said_by, says_map};
+    ghost use Rattle.chunk_store.specs.Said.{answers_alone, just_one, said_by, says_map, vouched_map};
 
     ghost holds = { λ s. Some (bytes_by_id s.by_id) };
+
+    ghost members = { λ s. just_one (Some (bytes_by_id s.by_id)) };
 
     ghost said = { λ s. said_by (Some (bytes_by_id s.by_id)) };
 
@@ -158,6 +166,10 @@ impl Store for ChunkMap {
     fn has(&mut self, id: &ChunkId) -> Result<bool, IoFault> {
         Ok(self.by_id.contains_key(id))
     }
+
+    ghost alone = { λ s. answers_alone (Some (bytes_by_id s.by_id)) };
+
+    ghost vouched = { λ s. vouched_map (Some (bytes_by_id s.by_id)) };
 
     ghost says = { λ s. says_map (Some (bytes_by_id s.by_id)) };
 

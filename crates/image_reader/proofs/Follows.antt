@@ -6,6 +6,7 @@ use Rattle.std.specs.List.{AllZip, count_by}
 use Rattle.std.specs.Str.{bytes_eq}
 use Rattle.caibx_codec.specs.Listing.{Listing, id_of}
 use Rattle.chunk_store.specs.Asks.{Ask, Get}
+use Rattle.chunk_store.specs.Members.{told_together}
 use Rattle.chunk_store.specs.declared.id.DigestKind.{DigestKind}
 use Rattle.chunk_store.specs.declared.store.Store.{Ghosts as StoreWords}
 use Rattle.dsy_base.specs.Counts.{raised}
@@ -45,7 +46,7 @@ module _ {S : Type 0} (store : StoreWords S) (old mid new : ReaderState S) where
     had_then P keeps w (inl has) = had_later P keeps w (before.known w has)
     had_then P keeps w (inr got) =
         let K : DigestKind → Type 0 = λ k. IsGot store k w old.chain.stores new.chain.stores in
-        inr (subst K before.kind (record { bytes = got.bytes; chunk = got.chunk; shown = got.shown; held = λ maps told. got.held maps (before.stores.held ∙ told) }))
+        inr (subst K before.kind (record { bytes = got.bytes; chunk = got.chunk; shown = got.shown; held = λ maps told. got.held maps (ap told_together before.stores.members ∙ told) }))
 
     -- the wants of the first `to` entries are those of the first k, and then those of the other read
     module _ (from m j to : ℕ) (then : ReadsTo store from m j mid new) (grows : wants_to old.index at n to ≡ wants_to old.index at n k ++ wants_to old.index from m j)

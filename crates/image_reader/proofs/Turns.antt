@@ -9,6 +9,7 @@ use Rattle.std.specs.List.{AllZip, count_by}
 use Rattle.std.specs.Str.{bytes_eq}
 use Rattle.caibx_codec.specs.Listing.{count_of}
 use Rattle.chunk_store.specs.Asks.{Ask, Get}
+use Rattle.chunk_store.specs.Members.{told_together}
 use Rattle.chunk_store.specs.Said.{AskedOnce}
 use Rattle.chunk_store.specs.declared.id.DigestKind.{DigestKind}
 use Rattle.chunk_store.specs.declared.store.Store.{Ghosts as StoreWords}
@@ -171,7 +172,7 @@ module _ {S : Type 0} (store : StoreWords S) (at n : ℕ) where
             bytes = got.bytes;
             chunk = got.chunk;
             shown = got.shown;
-            held = λ maps told. got.held maps (before.stores.held ∙ told);
+            held = λ maps told. got.held maps (ap told_together before.stores.members ∙ told);
           }))
 
       pub reads_miss : ReadsTo store at n (i + 1) old new

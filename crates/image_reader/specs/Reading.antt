@@ -41,7 +41,7 @@ module _ {S : Type 0} (store : StoreWords S) where
     pub bytes : List ℕ
     pub chunk : IsChunk kind w.id.0 w.size bytes
     pub shown : Any (λ s. (store.said s).shown w.id.0 bytes) now
-    pub held : SomeHolds store.holds old w.id.0 bytes
+    pub held : SomeHolds store.members old w.id.0 bytes
 
   -- the chunk was kept first, or a store has shown it
   abbrev pub IsHad : Want → ReaderState S → ReaderState S → Type 0

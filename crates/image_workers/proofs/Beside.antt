@@ -1,5 +1,5 @@
 -- What the second pass of the first worker leaves, over the target's first bytes: it began at a and ended at b.
-use Rattle.std.proofs.Common.{◌≡◌, ◌<◌, ◌≤◌, ℕ, List, Option, None, Some, IfSome, Result, Ok, OnOk, Err, true, length, map, refl, sym, subst, ◌∙◌, inr, arith}
+use Rattle.std.proofs.Common.{◌≡◌, ◌<◌, ◌≤◌, ℕ, List, Option, None, Some, IfSome, Result, Ok, OnOk, Err, true, length, refl, sym, subst, ◌∙◌, inr, arith, ap}
 use Rattle.assembler.proofs.Based.{StandsOver, ends_map, only_such, some_map, told_map}
 use Rattle.assembler.proofs.Finished.{Finished, Since, after_fault, after_ok, bytes_err, bytes_ok, exactly_err, exactly_ok, finished_retry, lost_err, some_between, stands_joined, told_between}
 use Rattle.assembler.specs.Assemblies.{IsUnobtained}
@@ -15,6 +15,7 @@ use Rattle.chunk_sources.specs.Caches.{IsAlone, Stocked, TakesWants, cache_fault
 use Rattle.chunk_sources.specs.Sources.{Sources, sources, views_of}
 use Rattle.chunk_sources.specs.Wants.{Task}
 use Rattle.chunk_sources.specs.declared.kit.Kit.{Kit}
+use Rattle.chunk_store.specs.Members.{maps_of, told_together}
 use Rattle.chunk_store.specs.declared.store.Store.{Ghosts as StoreWords}
 use Rattle.dsy_base.proofs.Counts.{rose_later}
 use Rattle.dsy_base.specs.Bytes.{resized}
@@ -80,7 +81,7 @@ module _ {S V : Type 0} (store : StoreWords S) (view : ViewWords V) (r : Run) (d
     -- ---- what is settled may be filled
 
     all_may : (i : ℕ) → i < count_of r.listing → settled b.fates i ≡ true → May i
-    all_may = settled_may r d x wants store view (views_of view old.seeds) given (map store.holds old.chain.stores) comes.permits a b.fates comes.gives comes.seeds.held comes.stores.held
+    all_may = settled_may r d x wants store view (views_of view old.seeds) given (maps_of store.members old.chain.stores) comes.permits a b.fates comes.gives comes.seeds.held (ap told_together comes.stores.members)
         (filled_of store view r d x wants w w.held.bytes comes.tells kept) passed.had
 
     abbrev over_base : List ℕ → List ℕ

@@ -17,7 +17,7 @@ use Rattle.assembler.specs.declared.fault.ExtractFault.TheVariants as faults
 use Rattle.cache_store.specs.Shelves.{Shelf}
 use Rattle.caibx_codec.specs.Listing.{count_of, id_of, image_length, kind_of, slice_of}
 use Rattle.chunk_sources.proofs.Lacking.{quiet_never}
-use Rattle.chunk_sources.specs.Caches.{HaveOneSize}
+use Rattle.chunk_sources.specs.Caches.{HaveOneSize, IsListedAs}
 use Rattle.chunk_sources.specs.Economy.{pass_asks, source_if, source_of}
 use Rattle.chunk_sources.specs.Sources.{Sources, SourcesQuiet, counts_of, sources, views_of}
 use Rattle.chunk_sources.specs.Wants.{Task}
@@ -110,8 +110,8 @@ module _ {S V : Type 0} (store : StoreWords S) (view : ViewWords V) (r : Run) (d
 
       -- where nothing fails until the last, nothing does on its way
       pub on_its_way : (last : Sources S V) → NoneFalls (counts_of view b.seeds.items) (counts_of view last.seeds) → NoneFalls (map store.faults b.chain.stores) (map store.faults last.chain.stores)
-          → IsTrue never → IsTrue r.tells → (cached maps : List (Map (List ℕ))) → SourcesQuiet store view first last cached maps
-          → SourcesQuiet store view (from (worker_stage r w0.fates 0 None a)) (from (worker_stage r n by.faults None b)) cached maps
+          → IsTrue never → IsTrue r.tells → (cached maps : List (Map (List ℕ))) → SourcesQuiet store view (kind_of r.listing) (IsListedAs r.listing) first last cached maps
+          → SourcesQuiet store view (kind_of r.listing) (IsListedAs r.listing) (from (worker_stage r w0.fates 0 None a)) (from (worker_stage r n by.faults None b)) cached maps
       on_its_way last seeds stores sure tells cached maps nothing = record {
         target = none_quiet by.faults (by.sure (both_so never r.tells sure tells));
         telling = nothing.telling;
@@ -119,12 +119,13 @@ module _ {S V : Type 0} (store : StoreWords S) (view : ViewWords V) (r : Run) (d
         told_cache = nothing.told_cache;
         cache = none_quiet 0 refl;
         told = nothing.told;
+        agree = nothing.agree;
         stores = quiet_until (map store.faults a.chain.stores) (map store.faults b.chain.stores) (map store.faults last.chain.stores) stores nothing.stores;
       }
 
       -- it has asked as often as what it was dealt takes, over the base
       calls_dealt : lacked ≡ false → IsTrue never → IsTrue r.tells → Quiet f g → (cached maps : List (Map (List ℕ)))
-          → SourcesQuiet store view (from (worker_stage r w0.fates 0 None a)) (from (worker_stage r n by.faults None b)) cached maps → HaveOneSize r.listing None cached maps
+          → SourcesQuiet store view (kind_of r.listing) (IsListedAs r.listing) (from (worker_stage r w0.fates 0 None a)) (from (worker_stage r n by.faults None b)) cached maps → HaveOneSize r.listing None cached maps
           → (base : List ℕ) → r.base ≡ base → b.chain.asks ≡ raised a.chain.asks (dealt_asks t base (views_of view a.seeds.items) cached maps k)
       calls_dealt had sure tells quiet cached maps nothing one base is =
           let over : (ℕ → Fate) → ℕ → ℕ = λ source w. pass_asks (source_if (deals_to d k) source w) in

@@ -1,5 +1,5 @@
 -- What holds for all kits, from what holds for the first one and for each worker.
-use Rattle.std.proofs.Common.{◌≡◌, ◌⊎◌, ◌∙◌, ◌++◌, ◌∷◌, ◌<◌, ℕ, List, [], Bool, Option, Some, None, IfOk, IfSome, IsTrue, Result, Ok, Err, length, map, slice_index_or, true, refl, sym, ap, subst, inl, inr}
+use Rattle.std.proofs.Common.{◌≡◌, ◌⊎◌, ◌∙◌, ◌++◌, ◌<◌, ℕ, List, Bool, Option, Some, None, IfOk, IfSome, IsTrue, Result, Ok, Err, length, slice_index_or, true, refl, sym, ap, subst, inl, inr}
 use Rattle.std.proofs.lemmas.List.{get_or_default}
 use Rattle.assembler.proofs.Based.{some_map, told_map}
 use Rattle.assembler.specs.Assemblies.{Assembles, IsObtainable, Verdict}
@@ -9,12 +9,13 @@ use Rattle.assembler.specs.OneKit.{lent}
 use Rattle.assembler.specs.declared.fault.ExtractFault.{ExtractFault}
 use Rattle.assembler.specs.declared.fault.ExtractFault.TheVariants as faults
 use Rattle.cache_store.specs.Shelves.{Shelf}
-use Rattle.caibx_codec.specs.Listing.{Listing, count_of, image_length}
-use Rattle.chunk_sources.specs.Caches.{HaveOneSize, Stocked, TakesListed, cached_in}
+use Rattle.caibx_codec.specs.Listing.{Listing, count_of, image_length, kind_of}
+use Rattle.chunk_sources.specs.Caches.{HaveOneSize, Stocked, TakesListed, cached_in, IsListedAs}
 use Rattle.chunk_sources.specs.Economy.{source_of}
 use Rattle.chunk_sources.specs.Sources.{Sources, SourcesQuiet, Telling, views_of}
 use Rattle.chunk_sources.specs.Wants.{Task}
 use Rattle.chunk_sources.specs.declared.kit.Kit.{Kit}
+use Rattle.chunk_store.specs.Members.{maps_of, told_together}
 use Rattle.chunk_store.specs.declared.store.Store.{Ghosts as StoreWords}
 use Rattle.dsy_base.specs.Bytes.{Held, resized}
 use Rattle.dsy_base.specs.Maps.{Map}
@@ -27,20 +28,9 @@ use Rattle.range_ledger.specs.Runs.{Run}
 use Rattle.range_survey.specs.Reports.{right_below}
 use Rattle.range_survey.specs.declared.fate.Fate.{Fate}
 use Rattle.range_survey.specs.declared.report.Report.{Report}
+use Rattle.std.proofs.lemmas.Option.{same_Some}
 
 -- ---- values that are told
-
-abbrev given : {X : Type 0} → List (Option X) → List X
-given [] = []
-given (None ∷ os) = given os
-given (Some x ∷ os) = x ∷ given os
-
-given_all : {X : Type 0} (xs : List X) → given (map Some xs) ≡ xs
-given_all [] = refl
-given_all (x ∷ xs) = ap (λ ys. x ∷ ys) (given_all xs)
-
-same_given : {X : Type 0} (xs ys : List X) → map Some xs ≡ map Some ys → xs ≡ ys
-same_given xs ys same = sym (given_all xs) ∙ ap given same ∙ given_all ys
 
 told_so : (o p : Option (List ℕ)) (P Q : List ℕ → List ℕ → Type 0) → ((y z : List ℕ) → P y z → Q y z) → WhereTold o p P → WhereTold o p Q
 told_so None p P Q f has = tt
@@ -76,15 +66,15 @@ module _ {S V : Type 0} (store : StoreWords S) (view : ViewWords V) (r : Run) (t
   -- ---- kits that are alike
 
   module _ (q : Kit S V) (maps : List (Map (List ℕ))) (alike : AreKitsAlike store view t kits) (telling : Telling view.tells (views_of view (slice_index_or kits 0 q).seeds.items))
-      (told : map store.holds (slice_index_or kits 0 q).chain.stores ≡ map Some maps) where
+      (told : maps_of store.members (slice_index_or kits 0 q).chain.stores ≡ Some maps) where
     abbrev views : List (Option Held)
     views = views_of view (slice_index_or kits 0 q).seeds.items
 
     views_at : (k : ℕ) (z : Kit S V) → k < length kits → views_of view (slice_index_or kits k z).seeds.items ≡ views
     views_at k z less = ap (λ (p : Kit S V). views_of view p.seeds.items) (get_or_default kits k z q less) ∙ (alike k q less).0
 
-    told_at : (k : ℕ) (z : Kit S V) → k < length kits → map store.holds (slice_index_or kits k z).chain.stores ≡ map Some maps
-    told_at k z less = ap (λ (p : Kit S V). map store.holds p.chain.stores) (get_or_default kits k z q less) ∙ (alike k q less).1 ∙ told
+    told_at : (k : ℕ) (z : Kit S V) → k < length kits → maps_of store.members (slice_index_or kits k z).chain.stores ≡ Some maps
+    told_at k z less = ap (λ (p : Kit S V). maps_of store.members p.chain.stores) (get_or_default kits k z q less) ∙ ap told_together (alike k q less).1 ∙ told
 
     -- all tell where the first does
     all_tell : AllKitsTell store view t kits
@@ -94,8 +84,8 @@ module _ {S V : Type 0} (store : StoreWords S) (view : ViewWords V) (r : Run) (t
     first_has : (cached : List (Map (List ℕ))) (y : List ℕ) (i : ℕ) → SomeKitHas store view t kits cached y i → IsObtainable t (resized y (image_length t.listing)) views (cached ++ maps) i
     first_has cached y i (k, z, less, at, (more, holds, has)) =
         let held : views_of view z.seeds.items ≡ views = subst (λ (p : Kit S V). views_of view p.seeds.items ≡ views) at (views_at k z less) in
-        let here : map store.holds z.chain.stores ≡ map Some maps = subst (λ (p : Kit S V). map store.holds p.chain.stores ≡ map Some maps) at (told_at k z less) in
-        let same : more ≡ maps = same_given more maps (sym holds ∙ here) in
+        let here : maps_of store.members z.chain.stores ≡ Some maps = subst (λ (p : Kit S V). maps_of store.members p.chain.stores ≡ Some maps) at (told_at k z less) in
+        let same : more ≡ maps = same_Some more maps (sym holds ∙ here) in
         subst (λ v. IsObtainable t (resized y (image_length t.listing)) v (cached ++ maps) i) held
         (subst (λ ms. IsObtainable t (resized y (image_length t.listing)) (views_of view z.seeds.items) (cached ++ ms) i) same has)
 
@@ -113,7 +103,7 @@ module _ {S V : Type 0} (store : StoreWords S) (view : ViewWords V) (r : Run) (t
     -- that each want is counted by its source, where nothing fails and the cache was this
     abbrev pub ReportedOver : ((ℕ → Fate) → ℕ → Report → Type 0) → Option Shelf → Type 0
     ReportedOver Reports c = IsTrue never → AreKitsAlike store view t kits → (q j : Kit S V) (cached maps : List (Map (List ℕ)))
-        → ((k : ℕ) → k < length kits → SourcesQuiet store view (at_kit (lent f kits c) k q) (at_kit (lent g outs e) k j) cached maps) → HaveOneSize t.listing c cached maps
+        → ((k : ℕ) → k < length kits → SourcesQuiet store view (kind_of t.listing) (IsListedAs t.listing) (at_kit (lent f kits c) k q) (at_kit (lent g outs e) k j) cached maps) → HaveOneSize t.listing c cached maps
         → IfSome o (λ y. Verdict t.listing (IsObtainable t (resized y (image_length t.listing)) (views_of view (slice_index_or kits 0 q).seeds.items) (cached ++ maps)) res)
         → IfSome o (λ y. IfOk res (Reports (source_of t (resized y (image_length t.listing)) (views_of view (slice_index_or kits 0 q).seeds.items) cached maps) t.plan.wants))
 

@@ -11,5 +11,4 @@ pub mod Reports
 pub mod Sharing
 pub mod Spared
 pub mod Tallying
-pub mod Telling
 pub mod Working

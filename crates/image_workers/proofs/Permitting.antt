@@ -1,5 +1,5 @@
 -- Which entries a pass may fill, by what the run's name permits with a kit.
-use Rattle.std.proofs.Common.{◌≡◌, ◌⊎◌, ◌++◌, ℕ, ◌<◌, List, Option, IsTrue, map, true, sym, ◌∙◌, subst, inl, inr}
+use Rattle.std.proofs.Common.{◌≡◌, ◌⊎◌, ◌++◌, ℕ, ◌<◌, List, Option, IsTrue, true, sym, ◌∙◌, subst, inl, inr}
 use Rattle.assembler.proofs.Entries.{among_of, first_among, ids_same, listed_of}
 use Rattle.assembler.proofs.Finished.{here}
 use Rattle.assembler.proofs.HadOn.{had_entry}
@@ -14,6 +14,7 @@ use Rattle.chunk_sources.proofs.Cached.{gives_left, gives_part, gives_right}
 use Rattle.chunk_sources.specs.Losses.{Had}
 use Rattle.chunk_sources.specs.Sources.{SeedsGive, Telling, views_of}
 use Rattle.chunk_sources.specs.Wants.{Task, want_chunk}
+use Rattle.chunk_store.specs.Members.{maps_of}
 use Rattle.chunk_store.specs.declared.store.Store.{Ghosts as StoreWords}
 use Rattle.dsy_base.specs.Bytes.{Held}
 use Rattle.dsy_base.specs.Maps.{Map}
@@ -63,9 +64,9 @@ module _ (r : Run) (d : Deal) (x : Placed) (wants : AreWants r.listing d.wants d
       ]))
 
   -- what the run permits with a kit may be filled over a stage, where its kit holds the same and the cache gives no more
-  pub permits : {S V : Type 0} (store : StoreWords S) (view : ViewWords V) (views : List (Option Held)) (given : Option (List (Map (List ℕ)))) (told : List (Option (Map (List ℕ))))
+  pub permits : {S V : Type 0} (store : StoreWords S) (view : ViewWords V) (views : List (Option Held)) (given : Option (List (Map (List ℕ)))) (told : Option (List (Map (List ℕ))))
       → PermitsWith view.tells r t views given told → (a : Stage S V)
-      → GivesNoMore (kind_of r.listing) given a.cache → views_of view a.kit.seeds.items ≡ views → map store.holds a.kit.chain.stores ≡ told → FilledBy a.fates → (Among : ℕ → Type 0) → MayFillHad store view t r.may a Among
+      → GivesNoMore (kind_of r.listing) given a.cache → views_of view a.kit.seeds.items ≡ views → maps_of store.members a.kit.chain.stores ≡ told → FilledBy a.fates → (Among : ℕ → Type 0) → MayFillHad store view t r.may a Among
   permits store view views given told permit a gives seen holds filled Among w less any has i among =
       let inside = listed_of r.listing d w i wants among in
       permit i inside (λ tells telling cached maps before is.
@@ -75,9 +76,9 @@ module _ (r : Run) (d : Deal) (x : Placed) (wants : AreWants r.listing d.wants d
       had_so a.fates (filled tells) views (cached ++ maps) i inside (had_entry t wants a.fates views (cached ++ maps) w i among (subst (λ v. Had a.fates (want_chunk t w) v (cached ++ maps)) seen had)))
 
   -- what a pass has settled may be filled, if the run permits so with the kit that it began with
-  pub settled_may : {S V : Type 0} (store : StoreWords S) (view : ViewWords V) (views : List (Option Held)) (given : Option (List (Map (List ℕ)))) (told : List (Option (Map (List ℕ))))
+  pub settled_may : {S V : Type 0} (store : StoreWords S) (view : ViewWords V) (views : List (Option Held)) (given : Option (List (Map (List ℕ)))) (told : Option (List (Map (List ℕ))))
       → PermitsWith view.tells r t views given told
-      → (a : Stage S V) (now : List Fate) → GivesNoMore (kind_of r.listing) given a.cache → views_of view a.kit.seeds.items ≡ views → map store.holds a.kit.chain.stores ≡ told → FilledBy a.fates → HadAll store view t a now
+      → (a : Stage S V) (now : List Fate) → GivesNoMore (kind_of r.listing) given a.cache → views_of view a.kit.seeds.items ≡ views → maps_of store.members a.kit.chain.stores ≡ told → FilledBy a.fates → HadAll store view t a now
       → (i : ℕ) → i < count_of r.listing → settled now i ≡ true → r.may i ≡ true
   settled_may store view views given told permit a now gives seen holds filled had i inside is =
       permit i inside (λ tells telling cached maps before are.

@@ -14,8 +14,8 @@ use Rattle.assembler.specs.Stages.{Stage, Stretch, from}
 use Rattle.assembler.specs.declared.fault.ExtractFault.{ExtractFault}
 use Rattle.assembler.specs.declared.fault.ExtractFault.TheVariants as faults
 use Rattle.cache_store.specs.Shelves.{Shelf}
-use Rattle.caibx_codec.specs.Listing.{count_of, image_length}
-use Rattle.chunk_sources.specs.Caches.{OthersAddListed, HaveOneSize, Stocked, TakesWants, cache_faults, cached_in}
+use Rattle.caibx_codec.specs.Listing.{count_of, image_length, kind_of}
+use Rattle.chunk_sources.specs.Caches.{OthersAddListed, HaveOneSize, Stocked, TakesWants, cache_faults, cached_in, IsListedAs}
 use Rattle.chunk_sources.specs.Economy.{as_upstream, source_if, source_of, source_over}
 use Rattle.chunk_sources.specs.Sources.{SourcesQuiet, sources, views_of}
 use Rattle.chunk_sources.specs.Wants.{Task}
@@ -53,8 +53,8 @@ module _ {S V : Type 0} (store : StoreWords S) (view : ViewWords V) (r : Run) (d
   -- what was quiet from before to after it was quiet on the way of a worker, which counts faults of its own, and sees
   -- the cache through a door that tells what the cache told at first
   pub quiet_worker : (f g h : ℕ) (a b : Kit S V) (m n : List Fate) (c e e0 s : Option Shelf) (cached maps : List (Map (List ℕ))) → h ≡ 0 → cached_in e0 ≡ Some cached → cache_faults e0 ≡ 0 → cache_faults s ≡ 0
-      → SourcesQuiet store view (sources f a.seeds.items c a.chain) (sources g b.seeds.items e b.chain) cached maps
-      → SourcesQuiet store view (from (worker_stage r m 0 e0 a)) (from (worker_stage r n h s b)) cached maps
+      → SourcesQuiet store view (kind_of r.listing) (IsListedAs r.listing) (sources f a.seeds.items c a.chain) (sources g b.seeds.items e b.chain) cached maps
+      → SourcesQuiet store view (kind_of r.listing) (IsListedAs r.listing) (from (worker_stage r m 0 e0 a)) (from (worker_stage r n h s b)) cached maps
   quiet_worker f g h a b m n c e e0 s cached maps none told fresh calm nothing = record {
     target = none_quiet h none;
     telling = nothing.telling;
@@ -62,6 +62,7 @@ module _ {S V : Type 0} (store : StoreWords S) (view : ViewWords V) (r : Run) (d
     told_cache = told;
     cache = record { same = omega (arith, fresh, calm); below = omega (arith, calm) };
     told = nothing.told;
+    agree = nothing.agree;
     stores = nothing.stores;
   }
 
@@ -70,23 +71,23 @@ module _ {S V : Type 0} (store : StoreWords S) (view : ViewWords V) (r : Run) (d
       (A : ℕ → Type 0) (w1 : Whole) (b c : Kit S V) (held : Held) (n : List Fate) → slice_index_or worked 0 j ≡ b → c ≡ slice_index_or outs 0 j
       → ((k : ℕ) → 0 < k → slice_index_or worked k j ≡ slice_index_or outs k j)
       → Stretch store view t A (joined_stage w1 c1 b) (record { held = held; faults = g; fates = n; kit = c; cache = e })
-      → ((k : ℕ) → k < length kits → SourcesQuiet store view (at_kit (lent f kits c0) k q) (at_kit (lent g outs e) k j) cached maps)
+      → ((k : ℕ) → k < length kits → SourcesQuiet store view (kind_of r.listing) (IsListedAs r.listing) (at_kit (lent f kits c0) k q) (at_kit (lent g outs e) k j) cached maps)
       → cached_in e0 ≡ cached_in c0 → cache_faults e0 ≡ 0
       → (k h : ℕ) (s : Option Shelf) → k < length kits → h ≡ 0 → cache_faults s ≡ 0
-      → SourcesQuiet store view (from (worker_stage r m 0 e0 (slice_index_or kits k q))) (from (worker_stage r (slice_index_or lists k []) h s (slice_index_or worked k j))) cached maps
+      → SourcesQuiet store view (kind_of r.listing) (IsListedAs r.listing) (from (worker_stage r m 0 e0 (slice_index_or kits k q))) (from (worker_stage r (slice_index_or lists k []) h s (slice_index_or worked k j))) cached maps
   quiet_ways kits worked outs q j f g c0 c1 e e0 m lists cached maps A w1 b c held n first back later more quiet told fresh zero h s less none calm =
       let a = slice_index_or kits 0 q in
       let begin : Stage S V = record { held = held; faults = f; fates = m; kit = a; cache = c0 } in
       let end : Stage S V = record { held = held; faults = g; fates = n; kit = c; cache = e } in
-      let all : SourcesQuiet store view (from begin) (from end) cached maps =
-      subst (λ (z : Kit S V). SourcesQuiet store view (from begin) (sources g z.seeds.items e z.chain) cached maps) (sym back) (quiet 0 less) in
-      subst (λ (z : Kit S V). SourcesQuiet store view (from (worker_stage r m 0 e0 a)) (from (worker_stage r (slice_index_or lists 0 []) h s z)) cached maps) (sym first)
+      let all : SourcesQuiet store view (kind_of r.listing) (IsListedAs r.listing) (from begin) (from end) cached maps =
+      subst (λ (z : Kit S V). SourcesQuiet store view (kind_of r.listing) (IsListedAs r.listing) (from begin) (sources g z.seeds.items e z.chain) cached maps) (sym back) (quiet 0 less) in
+      subst (λ (z : Kit S V). SourcesQuiet store view (kind_of r.listing) (IsListedAs r.listing) (from (worker_stage r m 0 e0 a)) (from (worker_stage r (slice_index_or lists 0 []) h s z)) cached maps) (sym first)
       (quiet_worker f w1.faults h a b m (slice_index_or lists 0 []) c0 c1 e0 s cached maps none (told ∙ all.told_cache) fresh calm
       (nothing_first store view t A begin (joined_stage w1 c1 b) end cached maps more all))
   quiet_ways kits worked outs q j f g c0 c1 e e0 m lists cached maps A w1 b c held n first back later more quiet told fresh (suc k) h s less none calm =
       let a = slice_index_or kits (suc k) q in
       let here = quiet (suc k) less in
-      subst (λ (z : Kit S V). SourcesQuiet store view (from (worker_stage r m 0 e0 a)) (from (worker_stage r (slice_index_or lists (suc k) []) h s z)) cached maps) (sym (later (suc k) (omega arith)))
+      subst (λ (z : Kit S V). SourcesQuiet store view (kind_of r.listing) (IsListedAs r.listing) (from (worker_stage r m 0 e0 a)) (from (worker_stage r (slice_index_or lists (suc k) []) h s z)) cached maps) (sym (later (suc k) (omega arith)))
       (quiet_worker f g h a (slice_index_or outs (suc k) j) m (slice_index_or lists (suc k) []) c0 e e0 s cached maps none (told ∙ here.told_cache) fresh calm here)
 
   module _ (kits outs : List (Kit S V)) (never : Bool) (f g : ℕ) (w0 w1 : Whole) (known : AreFirst r w0.fates) (lists : List (List Fate)) (lacked : ℕ → Bool)
@@ -132,7 +133,7 @@ module _ {S V : Type 0} (store : StoreWords S) (view : ViewWords V) (r : Run) (d
     module _ (alike : AreKitsAlike store view t kits) (q j : Kit S V) (cached maps : List (Map (List ℕ))) (one : HaveOneSize r.listing e0 cached maps)
         (adds : (k : ℕ) → k < length kits → OthersAddListed store r.listing (slice_index_or kits k q).chain.stores e0)
         (calm : (k : ℕ) (less : k < length kits) → cache_faults (by k q j less).door ≡ 0)
-        (quiet : (k : ℕ) (h : ℕ) (s : Option Shelf) → k < length kits → h ≡ 0 → cache_faults s ≡ 0 → SourcesQuiet store view (from (worker_stage r w0.fates 0 e0 (slice_index_or kits k q)))
+        (quiet : (k : ℕ) (h : ℕ) (s : Option Shelf) → k < length kits → h ≡ 0 → cache_faults s ≡ 0 → SourcesQuiet store view (kind_of r.listing) (IsListedAs r.listing) (from (worker_stage r w0.fates 0 e0 (slice_index_or kits k q)))
         (from (worker_stage r (slice_index_or lists k []) h s (slice_index_or outs k j))) cached maps) (sure : IsTrue never) where
       abbrev views : List (Option Held)
       views = views_of view (slice_index_or kits 0 q).seeds.items
@@ -155,7 +156,7 @@ module _ {S V : Type 0} (store : StoreWords S) (view : ViewWords V) (r : Run) (d
         none_failed k less = (by k q j less).sure (both_so never r.tells sure (sym was.told))
 
         -- nothing failed on the way of worker k
-        way : (k : ℕ) (less : k < length kits) → SourcesQuiet store view (from (worker_stage r w0.fates 0 e0 (slice_index_or kits k q)))
+        way : (k : ℕ) (less : k < length kits) → SourcesQuiet store view (kind_of r.listing) (IsListedAs r.listing) (from (worker_stage r w0.fates 0 e0 (slice_index_or kits k q)))
             (from (worker_stage r (slice_index_or lists k []) (by k q j less).faults (by k q j less).door (slice_index_or outs k j))) cached maps
         way k less = quiet k (by k q j less).faults (by k q j less).door less (none_failed k less) (calm k less)
 
@@ -185,7 +186,7 @@ module _ {S V : Type 0} (store : StoreWords S) (view : ViewWords V) (r : Run) (d
             (passed_as (source_if (deals_to d k) (source_by k)) (source_if (deals_to d k) source) d.wants (count_of r.listing) w0.fates (slice_index_or lists k []) a.chain b.chain
             (λ w below. ap (λ (s : Fate). if deals_to d k w then s else fate.Kept) (same_source k inside w))
             ((by k q j inside).exactly none (had k inside) cached maps
-            (subst (λ (z : Option Shelf). SourcesQuiet store view (from (worker_stage r w0.fates 0 z a)) (from (worker_stage r (slice_index_or lists k []) faults None b)) cached maps) none
+            (subst (λ (z : Option Shelf). SourcesQuiet store view (kind_of r.listing) (IsListedAs r.listing) (from (worker_stage r w0.fates 0 z a)) (from (worker_stage r (slice_index_or lists k []) faults None b)) cached maps) none
             (quiet k faults None inside (none_failed k inside) refl))
             (subst (λ (z : Option Shelf). HaveOneSize r.listing z cached maps) none one))).tallied)
             rep counts

@@ -1,6 +1,6 @@
 -- What several workers may add to a cache that they share, and what it gives then. Kits count from 0.
 use Rattle.std.proofs.Common.{◌≡◌, ◌⊎◌, ◌++◌, ◌∷◌, ◌<◌, ℕ, zero, suc, List, [], All, Option, Some, None, IfSome, IsSome, IsSomeAnd, length, map, slice_index_or, refl, sym, ap, subst, ◌∙◌, inl, inr, arith}
-use Rattle.std.proofs.lemmas.List.{get_or_default, map-append}
+use Rattle.std.proofs.lemmas.List.{append_assoc, get_or_default}
 use Rattle.std.proofs.lemmas.Option.{none-some, same_Some}
 use Rattle.std.specs.List.{Any}
 use Rattle.std.specs.Option.{option_map}
@@ -16,79 +16,70 @@ use Rattle.chunk_sources.specs.Caches.{OthersAddListed, AddsSize, CacheGives, Is
 use Rattle.chunk_sources.specs.Wants.{Task}
 use Rattle.chunk_sources.specs.declared.kit.Kit.{Kit}
 use Rattle.chunk_store.specs.Folders.{chunks}
+use Rattle.chunk_store.proofs.Members.{any_here, any_left, any_next, any_part, any_right, told_parts}
 use Rattle.chunk_store.specs.Giving.{IsChunk}
+use Rattle.chunk_store.specs.Members.{maps_of, told_together}
 use Rattle.chunk_store.specs.declared.store.Store.{Ghosts as StoreWords}
 use Rattle.dsy_base.specs.Maps.{Map}
 use Rattle.dsy_base.specs.declared.view.View.{Ghosts as ViewWords}
 use Rattle.extract_plan.specs.Deal.{AreWants, Deal, first_of, want_id}
 use Rattle.extract_plan.specs.Places.{Placed}
-use Rattle.image_workers.proofs.Telling.{all_are, told_all}
 use Rattle.image_workers.specs.Kits.{AreKitsAlike}
-use Rattle.image_workers.specs.Shared.{GivesNoMore, MayAddFrom, all_stores, all_told, door_shelf, pairs_below}
+use Rattle.image_workers.specs.Shared.{GivesNoMore, MayAddFrom, all_stores, door_shelf, pairs_below}
 use Rattle.store_chain.specs.Giving.{SomeHolds}
 
 -- ---- lists
 
-module _ {X : Type 0} (P : X → Type 0) where
-  any_here : (x : X) (xs : List X) → P x → Any P (x ∷ xs)
-  any_here x xs p = (0, x, omega arith, refl, p)
-
-  any_next : (x : X) (xs : List X) → Any P xs → Any P (x ∷ xs)
-  any_next x xs rest = let less : rest.0 < length xs = rest.2 in (suc rest.0, rest.1, omega (arith, less), rest.3, rest.4)
-
-  any_left : (xs ys : List X) → Any P xs → Any P (xs ++ ys)
-  any_left [] ys any = let less : any.0 < 0 = any.2 in absurd (omega (arith, less))
-  any_left (x ∷ xs) ys (zero, y, less, at, p) = any_here x (xs ++ ys) (subst P (sym at) p)
-  any_left (x ∷ xs) ys (suc k, y, less, at, p) = any_next x (xs ++ ys) (any_left xs ys (k, y, omega (arith, less), at, p))
-
-  any_right : (xs ys : List X) → Any P ys → Any P (xs ++ ys)
-  any_right [] ys any = any
-  any_right (x ∷ xs) ys any = any_next x (xs ++ ys) (any_right xs ys any)
-
-  any_either : (xs ys : List X) → Any P (xs ++ ys) → Any P xs ⊎ Any P ys
-  any_either [] ys any = inr any
-  any_either (x ∷ xs) ys (zero, y, less, at, p) = inl (any_here x xs (subst P (sym at) p))
-  any_either (x ∷ xs) ys (suc k, y, less, at, p) = elim (any_either xs ys (k, y, omega (arith, less), at, p)) [
-    | inl first ↦ inl (any_next x xs first)
-    | inr later ↦ inr later
-  ]
-
 -- what two lists tell together
-record Halves {X Y : Type 0} (h : X → Option Y) (xs ys : List X) (maps : List Y) : Type 0 where
+record Halves {X Y : Type 0} (h : X → Option (List Y)) (xs ys : List X) (maps : List Y) : Type 0 where
   left : List Y
   right : List Y
   whole : maps ≡ left ++ right
-  of_left : map h xs ≡ map Some left
-  of_right : map h ys ≡ map Some right
+  of_left : told_together (map h xs) ≡ Some left
+  of_right : told_together (map h ys) ≡ Some right
 
-halves : {X Y : Type 0} (h : X → Option Y) (xs ys : List X) (maps : List Y) → map h (xs ++ ys) ≡ map Some maps → Halves h xs ys maps
+halves : {X Y : Type 0} (h : X → Option (List Y)) (xs ys : List X) (maps : List Y) → told_together (map h (xs ++ ys)) ≡ Some maps → Halves h xs ys maps
 halves h [] ys maps told = record { left = []; right = maps; whole = refl; of_left = refl; of_right = told }
-halves h (x ∷ xs) ys [] told = absurd (cc)
-halves h (x ∷ xs) ys (m ∷ maps) told =
-    let head : h x ≡ Some m = cc in
-    let rest : map h (xs ++ ys) ≡ map Some maps = cc in
-    let r = halves h xs ys maps rest in
-    record {
-      left = m ∷ r.left;
-      right = r.right;
-      whole = ap (λ zs. m ∷ zs) r.whole;
-      of_left = ap (λ z. z ∷ map h xs) head ∙ ap (λ zs. Some m ∷ zs) r.of_left;
-      of_right = r.of_right;
-    }
+halves {X} {Y} h (x ∷ xs) ys maps told = go (h x) refl told (λ ms is. halves h xs ys ms is) where
+  go : (o : Option (List Y)) → h x ≡ o → told_together (o ∷ map h (xs ++ ys)) ≡ Some maps
+      → ((ms : List Y) → told_together (map h (xs ++ ys)) ≡ Some ms → Halves h xs ys ms) → Halves h (x ∷ xs) ys maps
+  go None at all rest = absurd (none-some maps all)
+  go (Some zs) at all rest =
+      let p = told_parts zs (map h (xs ++ ys)) maps all in
+      let r = rest p.0 p.1 in
+      record {
+        left = zs ++ r.left;
+        right = r.right;
+        whole = sym p.2 ∙ ap (λ l. zs ++ l) r.whole ∙ sym (append_assoc zs r.left r.right);
+        of_left = ap (λ (o : Option (List Y)). told_together (o ∷ map h xs)) at ∙ ap (option_map (λ l. zs ++ l)) r.of_left;
+        of_right = r.of_right;
+      }
 
-none_under : {Y : Type 0} (y : Y) (o : Option (List Y)) → option_map (λ zs. y ∷ zs) o ≡ None → o ≡ None
-none_under y None is = refl
-none_under y (Some zs) is = absurd (cc)
+pub both_halves : {X Y : Type 0} (h : X → Option (List Y)) (xs ys : List X) (left right : List Y) → told_together (map h xs) ≡ Some left → told_together (map h ys) ≡ Some right
+    → told_together (map h (xs ++ ys)) ≡ Some (left ++ right)
+both_halves h [] ys left right first then = then ∙ ap (λ l. Some (l ++ right)) (same_Some [] left first)
+both_halves {X} {Y} h (x ∷ xs) ys left right first then = go (h x) refl first (λ ms is. both_halves h xs ys ms right is then) where
+  go : (o : Option (List Y)) → h x ≡ o → told_together (o ∷ map h xs) ≡ Some left
+      → ((ms : List Y) → told_together (map h xs) ≡ Some ms → told_together (map h (xs ++ ys)) ≡ Some (ms ++ right)) → told_together (map h (x ∷ (xs ++ ys))) ≡ Some (left ++ right)
+  go None at all rest = absurd (none-some left all)
+  go (Some zs) at all rest =
+      let p = told_parts zs (map h xs) left all in
+      ap (λ (o : Option (List Y)). told_together (o ∷ map h (xs ++ ys))) at ∙ ap (option_map (λ l. zs ++ l)) (rest p.0 p.1)
+      ∙ ap Some (sym (append_assoc zs p.0 right) ∙ ap (λ l. l ++ right) p.2)
 
-mute_cons : {Y : Type 0} (o : Option Y) (rest xs ys : List (Option Y)) → all_told (o ∷ rest) ≡ None → (all_told rest ≡ None → (all_told xs ≡ None) ⊎ (all_told ys ≡ None))
-    → (all_told (o ∷ xs) ≡ None) ⊎ (all_told ys ≡ None)
+none_under : {Y : Type 0} (ys : List Y) (o : Option (List Y)) → option_map (λ zs. ys ++ zs) o ≡ None → o ≡ None
+none_under ys None is = refl
+none_under ys (Some zs) is = absurd (cc)
+
+mute_cons : {Y : Type 0} (o : Option (List Y)) (rest xs ys : List (Option (List Y))) → told_together (o ∷ rest) ≡ None → (told_together rest ≡ None → (told_together xs ≡ None) ⊎ (told_together ys ≡ None))
+    → (told_together (o ∷ xs) ≡ None) ⊎ (told_together ys ≡ None)
 mute_cons None rest xs ys is so = inl refl
-mute_cons (Some y) rest xs ys is so = elim (so (none_under y (all_told rest) is)) [
-  | inl here ↦ inl (ap (option_map (λ zs. y ∷ zs)) here)
+mute_cons (Some y) rest xs ys is so = elim (so (none_under y (told_together rest) is)) [
+  | inl here ↦ inl (ap (option_map (λ zs. y ++ zs)) here)
   | inr later ↦ inr later
 ]
 
-mute_half : {X Y : Type 0} (h : X → Option Y) (xs ys : List X) → all_told (map h (xs ++ ys)) ≡ None → (all_told (map h xs) ≡ None) ⊎ (all_told (map h ys) ≡ None)
+mute_half : {X Y : Type 0} (h : X → Option (List Y)) (xs ys : List X) → told_together (map h (xs ++ ys)) ≡ None → (told_together (map h xs) ≡ None) ⊎ (told_together (map h ys) ≡ None)
 mute_half h [] ys none = inr none
 mute_half h (x ∷ xs) ys none = mute_cons (h x) (map h (xs ++ ys)) (map h xs) (map h ys) none (λ is. mute_half h xs ys is)
 
@@ -123,22 +114,22 @@ module _ {S V : Type 0} (store : StoreWords S) where
   -- what all stores tell those of one kit tell
   record PartOf (kits : List (Kit S V)) (k : ℕ) (q : Kit S V) (maps : List (Map (List ℕ))) : Type 0 where
     part : List (Map (List ℕ))
-    told : map store.holds (slice_index_or kits k q).chain.stores ≡ map Some part
+    told : maps_of store.members (slice_index_or kits k q).chain.stores ≡ Some part
     any : (id b : List ℕ) → Any (λ m. m id ≡ Some b) part → Any (λ m. m id ≡ Some b) maps
 
-  part_of : (kits : List (Kit S V)) (k : ℕ) (q : Kit S V) (maps : List (Map (List ℕ))) → k < length kits → map store.holds (all_stores kits) ≡ map Some maps → PartOf kits k q maps
+  part_of : (kits : List (Kit S V)) (k : ℕ) (q : Kit S V) (maps : List (Map (List ℕ))) → k < length kits → maps_of store.members (all_stores kits) ≡ Some maps → PartOf kits k q maps
   part_of [] k q maps less told = absurd (omega (arith, less))
   part_of (z ∷ zs) zero q maps less told =
-      let h = halves store.holds z.chain.stores (all_stores zs) maps told in
+      let h = halves store.members z.chain.stores (all_stores zs) maps told in
       record { part = h.left; told = h.of_left; any = λ id b some. subst (λ ms. Any (λ m. m id ≡ Some b) ms) (sym h.whole) (any_left (λ m. m id ≡ Some b) h.left h.right some) }
   part_of (z ∷ zs) (suc k) q maps less told =
-      let h = halves store.holds z.chain.stores (all_stores zs) maps told in
+      let h = halves store.members z.chain.stores (all_stores zs) maps told in
       let r = part_of zs k q h.right (omega (arith, less)) h.of_right in
       record { part = r.part; told = r.told; any = λ id b some. subst (λ ms. Any (λ m. m id ≡ Some b) ms) (sym h.whole) (any_right (λ m. m id ≡ Some b) h.left h.right (r.any id b some)) }
 
   -- what is held in one kit is held in all together
-  pub holds_all : (kits : List (Kit S V)) (k : ℕ) (q : Kit S V) → k < length kits → (id b : List ℕ) → SomeHolds store.holds (slice_index_or kits k q).chain.stores id b
-      → SomeHolds store.holds (all_stores kits) id b
+  pub holds_all : (kits : List (Kit S V)) (k : ℕ) (q : Kit S V) → k < length kits → (id b : List ℕ) → SomeHolds store.members (slice_index_or kits k q).chain.stores id b
+      → SomeHolds store.members (all_stores kits) id b
   holds_all kits k q less id b held = λ maps told. let p = part_of kits k q maps less told in p.any id b (held p.part p.told)
 
   -- what some map of all stores does one of some kit does
@@ -148,18 +139,18 @@ module _ {S V : Type 0} (store : StoreWords S) where
     pub inside : at < length kits
     pub is : slice_index_or kits at kit ≡ kit
     pub part : List (Map (List ℕ))
-    pub told : map store.holds kit.chain.stores ≡ map Some part
+    pub told : maps_of store.members kit.chain.stores ≡ Some part
     pub any : Any P part
 
   next_kit : (P : Map (List ℕ) → Type 0) (z : Kit S V) (zs : List (Kit S V)) → KitOf P zs → KitOf P (z ∷ zs)
   next_kit P z zs r = let less = r.inside in record { at = suc r.at; kit = r.kit; inside = omega (arith, less); is = r.is; part = r.part; told = r.told; any = r.any }
 
-  pub kit_of : (P : Map (List ℕ) → Type 0) (kits : List (Kit S V)) (maps : List (Map (List ℕ))) → map store.holds (all_stores kits) ≡ map Some maps → Any P maps → KitOf P kits
+  pub kit_of : (P : Map (List ℕ) → Type 0) (kits : List (Kit S V)) (maps : List (Map (List ℕ))) → maps_of store.members (all_stores kits) ≡ Some maps → Any P maps → KitOf P kits
   kit_of P [] [] told some = let less : some.0 < 0 = some.2 in absurd (omega (arith, less))
   kit_of P [] (m ∷ maps) told some = absurd (cc)
   kit_of P (z ∷ zs) maps told some =
-      let h = halves store.holds z.chain.stores (all_stores zs) maps told in
-      elim (any_either P h.left h.right (subst (λ ms. Any P ms) h.whole some)) [
+      let h = halves store.members z.chain.stores (all_stores zs) maps told in
+      elim (any_part P h.left h.right (subst (λ ms. Any P ms) h.whole some)) [
         | inl here ↦ record { at = 0; kit = z; inside = omega arith; is = refl; part = h.left; told = h.of_left; any = here }
         | inr later ↦ next_kit P z zs (kit_of P zs h.right h.of_right later)
       ]
@@ -170,14 +161,14 @@ module _ {S V : Type 0} (store : StoreWords S) where
     pub kit : Kit S V
     pub inside : at < length kits
     pub is : slice_index_or kits at kit ≡ kit
-    pub mute : all_told (map store.holds kit.chain.stores) ≡ None
+    pub mute : maps_of store.members kit.chain.stores ≡ None
 
   next_mute : (z : Kit S V) (zs : List (Kit S V)) → MuteKit zs → MuteKit (z ∷ zs)
   next_mute z zs r = let less = r.inside in record { at = suc r.at; kit = r.kit; inside = omega (arith, less); is = r.is; mute = r.mute }
 
-  pub mute_kit : (kits : List (Kit S V)) → all_told (map store.holds (all_stores kits)) ≡ None → MuteKit kits
+  pub mute_kit : (kits : List (Kit S V)) → maps_of store.members (all_stores kits) ≡ None → MuteKit kits
   mute_kit [] none = absurd (cc)
-  mute_kit (z ∷ zs) none = elim (mute_half store.holds z.chain.stores (all_stores zs) none) [
+  mute_kit (z ∷ zs) none = elim (mute_half store.members z.chain.stores (all_stores zs) none) [
     | inl here ↦ record { at = 0; kit = z; inside = omega arith; is = refl; mute = here }
     | inr later ↦ next_mute z zs (mute_kit zs later)
   ]
@@ -185,44 +176,44 @@ module _ {S V : Type 0} (store : StoreWords S) where
   -- kits whose stores tell the same
   record WholeOf (kits : List (Kit S V)) (maps : List (Map (List ℕ))) : Type 0 where
     whole : List (Map (List ℕ))
-    told : map store.holds (all_stores kits) ≡ map Some whole
+    told : maps_of store.members (all_stores kits) ≡ Some whole
     any : (id b : List ℕ) → Any (λ m. m id ≡ Some b) whole → Any (λ m. m id ≡ Some b) maps
 
-  whole_of : (kits : List (Kit S V)) (maps : List (Map (List ℕ))) → All (λ k. map store.holds k.chain.stores ≡ map Some maps) kits → WholeOf kits maps
+  whole_of : (kits : List (Kit S V)) (maps : List (Map (List ℕ))) → All (λ k. maps_of store.members k.chain.stores ≡ Some maps) kits → WholeOf kits maps
   whole_of [] maps all = record { whole = []; told = refl; any = λ id b some. let less : some.0 < 0 = some.2 in absurd (omega (arith, less)) }
   whole_of (z ∷ zs) maps all =
       let r = whole_of zs maps (λ k d less. all (suc k) d (omega (arith, less))) in
-      let head : map store.holds z.chain.stores ≡ map Some maps = all 0 z (omega arith) in
+      let head : maps_of store.members z.chain.stores ≡ Some maps = all 0 z (omega arith) in
       record {
         whole = maps ++ r.whole;
-        told = map-append store.holds z.chain.stores (all_stores zs) ∙ ap (λ os. os ++ map store.holds (all_stores zs)) head ∙ ap (λ os. map Some maps ++ os) r.told ∙ sym (map-append Some maps r.whole);
-        any = λ id b some. elim (any_either (λ m. m id ≡ Some b) maps r.whole some) [
+        told = both_halves store.members z.chain.stores (all_stores zs) maps r.whole head r.told;
+        any = λ id b some. elim (any_part (λ m. m id ≡ Some b) maps r.whole some) [
           | inl first ↦ first
           | inr later ↦ r.any id b later
         ];
       }
 
-  pub holds_alike : (view : ViewWords V) (t : Task) (kits : List (Kit S V)) (q : Kit S V) → AreKitsAlike store view t kits → (id b : List ℕ) → SomeHolds store.holds (all_stores kits) id b
-      → SomeHolds store.holds (slice_index_or kits 0 q).chain.stores id b
+  pub holds_alike : (view : ViewWords V) (t : Task) (kits : List (Kit S V)) (q : Kit S V) → AreKitsAlike store view t kits → (id b : List ℕ) → SomeHolds store.members (all_stores kits) id b
+      → SomeHolds store.members (slice_index_or kits 0 q).chain.stores id b
   holds_alike view t kits q alike id b held = λ maps told.
-      let w = whole_of kits maps (λ k z less. ap (λ (p : Kit S V). map store.holds p.chain.stores) (get_or_default kits k z q less) ∙ (alike k q less).1 ∙ told) in
+      let w = whole_of kits maps (λ k z less. ap (λ (p : Kit S V). maps_of store.members p.chain.stores) (get_or_default kits k z q less) ∙ ap told_together (alike k q less).1 ∙ told) in
       w.any id b (held w.whole w.told)
 
 -- ---- what may be added
 
 -- some map holds it, where the stores tell
-held_by : {S : Type 0} (store : StoreWords S) (stores : List S) (id b : List ℕ) → IfSome (all_told (map store.holds stores)) (Any (λ m. m id ≡ Some b)) → SomeHolds store.holds stores id b
-held_by store stores id b held = λ maps told. subst (λ o. IfSome o (Any (λ m. m id ≡ Some b))) (ap all_told told ∙ told_all maps) held
+held_by : {S : Type 0} (store : StoreWords S) (stores : List S) (id b : List ℕ) → IfSome (maps_of store.members stores) (Any (λ m. m id ≡ Some b)) → SomeHolds store.members stores id b
+held_by store stores id b held = λ maps told. subst (λ o. IfSome o (Any (λ m. m id ≡ Some b))) told held
 
-by_held : {S : Type 0} (store : StoreWords S) (stores : List S) (id b : List ℕ) → SomeHolds store.holds stores id b → IfSome (all_told (map store.holds stores)) (Any (λ m. m id ≡ Some b))
-by_held store stores id b held = go (all_told (map store.holds stores)) refl where
-  go : (o : Option (List (Map (List ℕ)))) → all_told (map store.holds stores) ≡ o → IfSome o (Any (λ m. m id ≡ Some b))
+by_held : {S : Type 0} (store : StoreWords S) (stores : List S) (id b : List ℕ) → SomeHolds store.members stores id b → IfSome (maps_of store.members stores) (Any (λ m. m id ≡ Some b))
+by_held store stores id b held = go (maps_of store.members stores) refl where
+  go : (o : Option (List (Map (List ℕ)))) → maps_of store.members stores ≡ o → IfSome o (Any (λ m. m id ≡ Some b))
   go None is = tt
-  go (Some maps) is = held maps (all_are (map store.holds stores) maps is)
+  go (Some maps) is = held maps is
 
 module _ {S V : Type 0} (store : StoreWords S) (l : Listing) (kits : List (Kit S V)) where
   abbrev pub Adds : List ℕ → List ℕ → Type 0
-  Adds = MayAdd (kind_of l) (Some (pairs_below l (count_of l))) (all_told (map store.holds (all_stores kits)))
+  Adds = MayAdd (kind_of l) (Some (pairs_below l (count_of l))) (maps_of store.members (all_stores kits))
 
   -- what is added an index lists, and some kit's store holds it
   pub adds_listed : (q b : List ℕ) → Adds q b → TakesListed store l (all_stores kits) q b
@@ -233,7 +224,7 @@ module _ {S V : Type 0} (store : StoreWords S) (l : Listing) (kits : List (Kit S
         (
           sym at.2,
           record { named = may.named ∙ sym at.2; sized = sym at.3 },
-          subst (λ (p : List ℕ). SomeHolds store.holds (all_stores kits) p b) (sym at.2) (held_by store (all_stores kits) q b may.held),
+          subst (λ (p : List ℕ). SomeHolds store.members (all_stores kits) p b) (sym at.2) (held_by store (all_stores kits) q b may.held),
         ),
       )
 
@@ -243,11 +234,11 @@ module _ {S V : Type 0} (store : StoreWords S) (l : Listing) (kits : List (Kit S
     named = chunk.named ∙ sym is;
     listed = subst (λ (p : List ℕ). IsPair p (length b) (pairs_below l (count_of l))) (sym is)
         (subst (λ (n : ℕ). IsPair (id_of l i) n (pairs_below l (count_of l))) (sym chunk.sized) (pair_below l (count_of l) i inside));
-    held = by_held store (all_stores kits) q b (subst (λ (p : List ℕ). SomeHolds store.holds (all_stores kits) p b) (sym is) (holds_all store kits k z less (id_of l i) b held));
+    held = by_held store (all_stores kits) q b (subst (λ (p : List ℕ). SomeHolds store.members (all_stores kits) p b) (sym is) (holds_all store kits k z less (id_of l i) b held));
   }
 
   -- it is the chunk, where no other one may stand in its place
-  adds_chunk : (id : List ℕ) (size : ℕ) → ((n : ℕ) (b : List ℕ) → IsListedAs l id n → IsChunk (kind_of l) id n b → SomeHolds store.holds (all_stores kits) id b → n ≡ size)
+  adds_chunk : (id : List ℕ) (size : ℕ) → ((n : ℕ) (b : List ℕ) → IsListedAs l id n → IsChunk (kind_of l) id n b → SomeHolds store.members (all_stores kits) id b → n ≡ size)
       → (b : List ℕ) → Adds id b → IsChunk (kind_of l) id size b
   adds_chunk id size one b may =
       let at = below_pair l (count_of l) id (length b) may.listed in
@@ -259,59 +250,59 @@ module _ {S V : Type 0} (store : StoreWords S) (l : Listing) (kits : List (Kit S
   module _ (first : Option (Map (List ℕ))) (c0 : Option Shelf) where
     -- the door of a worker, before it is used
     abbrev pub door : Option Shelf
-    door = door_shelf (kind_of l) first (Some (pairs_below l (count_of l))) (all_told (map store.holds (all_stores kits))) 0 c0
+    door = door_shelf (kind_of l) first (Some (pairs_below l (count_of l))) (maps_of store.members (all_stores kits)) 0 c0
 
     pub door_fresh : cache_faults door ≡ 0
     door_fresh = go c0 where
-      go : (c : Option Shelf) → cache_faults (door_shelf (kind_of l) first (Some (pairs_below l (count_of l))) (all_told (map store.holds (all_stores kits))) 0 c) ≡ 0
+      go : (c : Option Shelf) → cache_faults (door_shelf (kind_of l) first (Some (pairs_below l (count_of l))) (maps_of store.members (all_stores kits)) 0 c) ≡ 0
       go None = refl
       go (Some s) = refl
 
     pub door_none : c0 ≡ None → door ≡ None
-    door_none none = ap (door_shelf (kind_of l) first (Some (pairs_below l (count_of l))) (all_told (map store.holds (all_stores kits))) 0) none
+    door_none none = ap (door_shelf (kind_of l) first (Some (pairs_below l (count_of l))) (maps_of store.members (all_stores kits)) 0) none
 
     -- it shows what the cache held at first
     pub door_told : IfSome c0 (λ s. first ≡ s.files) → cached_in door ≡ cached_in c0
     door_told opens = go c0 opens where
-      go : (c : Option Shelf) → IfSome c (λ s. first ≡ s.files) → cached_in (door_shelf (kind_of l) first (Some (pairs_below l (count_of l))) (all_told (map store.holds (all_stores kits))) 0 c) ≡ cached_in c
+      go : (c : Option Shelf) → IfSome c (λ s. first ≡ s.files) → cached_in (door_shelf (kind_of l) first (Some (pairs_below l (count_of l))) (maps_of store.members (all_stores kits)) 0 c) ≡ cached_in c
       go None opens = refl
       go (Some s) opens = ap (option_map (λ m. chunks m ∷ [])) opens
 
     pub door_some : IsSome door → IsSome c0
     door_some = go c0 where
-      go : (c : Option Shelf) → IsSome (door_shelf (kind_of l) first (Some (pairs_below l (count_of l))) (all_told (map store.holds (all_stores kits))) 0 c) → IsSome c
+      go : (c : Option Shelf) → IsSome (door_shelf (kind_of l) first (Some (pairs_below l (count_of l))) (maps_of store.members (all_stores kits)) 0 c) → IsSome c
       go None some = some
       go (Some s) some = refl
 
     pub door_kind : IfSome door (λ s. s.kind ≡ (kind_of l))
     door_kind = go c0 where
-      go : (c : Option Shelf) → IfSome (door_shelf (kind_of l) first (Some (pairs_below l (count_of l))) (all_told (map store.holds (all_stores kits))) 0 c) (λ s. s.kind ≡ (kind_of l))
+      go : (c : Option Shelf) → IfSome (door_shelf (kind_of l) first (Some (pairs_below l (count_of l))) (maps_of store.members (all_stores kits)) 0 c) (λ s. s.kind ≡ (kind_of l))
       go None = tt
       go (Some s) = refl
 
     pub door_adds : (k : ℕ) (z : Kit S V) → k < length kits → MayAddFrom store l (slice_index_or kits k z).chain.stores door
     door_adds k z less = go c0 where
-      go : (c : Option Shelf) → MayAddFrom store l (slice_index_or kits k z).chain.stores (door_shelf (kind_of l) first (Some (pairs_below l (count_of l))) (all_told (map store.holds (all_stores kits))) 0 c)
+      go : (c : Option Shelf) → MayAddFrom store l (slice_index_or kits k z).chain.stores (door_shelf (kind_of l) first (Some (pairs_below l (count_of l))) (maps_of store.members (all_stores kits)) 0 c)
       go None = tt
       go (Some s) = λ q b takes. listed_adds k z less q b takes
 
     -- nobody adds another chunk where no store gives one
-    pub door_size : (id : List ℕ) (size : ℕ) → ((n : ℕ) (b : List ℕ) → IsListedAs l id n → IsChunk (kind_of l) id n b → SomeHolds store.holds (all_stores kits) id b → n ≡ size) → AddsSize id size door
+    pub door_size : (id : List ℕ) (size : ℕ) → ((n : ℕ) (b : List ℕ) → IsListedAs l id n → IsChunk (kind_of l) id n b → SomeHolds store.members (all_stores kits) id b → n ≡ size) → AddsSize id size door
     door_size id size one = go c0 where
-      go : (c : Option Shelf) → AddsSize id size (door_shelf (kind_of l) first (Some (pairs_below l (count_of l))) (all_told (map store.holds (all_stores kits))) 0 c)
+      go : (c : Option Shelf) → AddsSize id size (door_shelf (kind_of l) first (Some (pairs_below l (count_of l))) (maps_of store.members (all_stores kits)) 0 c)
       go None = tt
       go (Some s) = λ b may. (adds_chunk id size one b may).sized
 
     -- what the cache gives after the workers a worker may have found
     pub door_gave : IfSome c0 (λ s. first ≡ s.files) → (c1 : Option Shelf) → IfSome c1 (λ s. s.others ≡ None) → Stocked Adds c0 c1 → GivesNoMore (kind_of l) (given_maps door) c1
     door_gave opens c1 alone stocked = go c0 c1 opens alone stocked where
-      added : (id : List ℕ) (n : ℕ) (ms : List (Map (List ℕ))) → all_told (map store.holds (all_stores kits)) ≡ Some ms → (b : List ℕ) → Adds id b → IsChunk (kind_of l) id n b → SomeGives (kind_of l) id n ms
+      added : (id : List ℕ) (n : ℕ) (ms : List (Map (List ℕ))) → maps_of store.members (all_stores kits) ≡ Some ms → (b : List ℕ) → Adds id b → IsChunk (kind_of l) id n b → SomeGives (kind_of l) id n ms
       added id n ms told b may chunk =
           let held = subst (λ o. IfSome o (Any (λ m. m id ≡ Some b))) told may.held in
           (held.0, held.1, held.2, held.3, (b, held.4, chunk))
 
       shared : (s t : Shelf) → first ≡ s.files → t.others ≡ None → Stocked Adds (Some s) (Some t) → (m : Map (List ℕ)) (ms maps : List (Map (List ℕ))) → first ≡ Some m
-          → all_told (map store.holds (all_stores kits)) ≡ Some ms → maps ≡ chunks m ∷ ms → (now : List (Map (List ℕ))) × (given_maps (Some t) ≡ Some now)
+          → maps_of store.members (all_stores kits) ≡ Some ms → maps ≡ chunks m ∷ ms → (now : List (Map (List ℕ))) × (given_maps (Some t) ≡ Some now)
           × ((id : List ℕ) (n : ℕ) → SomeGives (kind_of l) id n now → SomeGives (kind_of l) id n maps)
       shared s t opens alone stocked m ms maps is told whole =
           let was : cached_in (Some s) ≡ Some (chunks m ∷ []) = ap (option_map (λ m. chunks m ∷ [])) (sym opens ∙ is) in
@@ -334,12 +325,12 @@ module _ {S V : Type 0} (store : StoreWords S) (l : Listing) (kits : List (Kit S
       parts (Some m) (Some ms) maps told = (m, ms, refl, refl, sym (same_Some (chunks m ∷ ms) maps told))
 
       go : (a b : Option Shelf) → IfSome a (λ s. first ≡ s.files) → IfSome b (λ s. s.others ≡ None) → Stocked Adds a b
-          → GivesNoMore (kind_of l) (given_maps (door_shelf (kind_of l) first (Some (pairs_below l (count_of l))) (all_told (map store.holds (all_stores kits))) 0 a)) b
+          → GivesNoMore (kind_of l) (given_maps (door_shelf (kind_of l) first (Some (pairs_below l (count_of l))) (maps_of store.members (all_stores kits)) 0 a)) b
       go None None opens alone stocked maps told = ([], refl, λ id n gives. subst (SomeGives (kind_of l) id n) (same_Some [] maps told) gives)
       go None (Some t) opens alone stocked maps told = absurd stocked
       go (Some s) None opens alone stocked maps told = absurd stocked
       go (Some s) (Some t) opens alone stocked maps told =
-          let p = parts first (all_told (map store.holds (all_stores kits))) maps told in
+          let p = parts first (maps_of store.members (all_stores kits)) maps told in
           shared s t opens alone stocked p.0 p.1 maps p.2 p.3 p.4
 
 -- ---- what was added in the end
@@ -359,22 +350,22 @@ module _ {S V : Type 0} (store : StoreWords S) (view : ViewWords V) (l : Listing
         (
           is ∙ like.0,
           subst (λ (n : ℕ). IsChunk (kind_of l) (want_id l d w) n b) like.1 (subst (λ (p : List ℕ). IsChunk (kind_of l) p (size_of l i) b) like.0 chunk),
-          subst (λ (p : List ℕ). SomeHolds store.holds stores p b) like.0 held,
+          subst (λ (p : List ℕ). SomeHolds store.members stores p b) like.0 held,
         ),
       )
 
   -- what is added for a want is added for an entry, and stands in all stores where it does in the first kit's
-  want_listed : (stores more : List S) → ((id b : List ℕ) → SomeHolds store.holds stores id b → SomeHolds store.holds more id b) → (q b : List ℕ)
+  want_listed : (stores more : List S) → ((id b : List ℕ) → SomeHolds store.members stores id b → SomeHolds store.members more id b) → (q b : List ℕ)
       → TakesWants store l d (λ w. w < d.wants) stores q b → TakesListed store l more q b
   want_listed stores more wider q b (w, below, (is, chunk, held)) =
       let first = first_of d w in (first, listed_of l d w first wants (first_among l d w wants below), (is, chunk, wider (want_id l d w) b held))
 
-  listed_wider : (stores more : List S) → ((id b : List ℕ) → SomeHolds store.holds stores id b → SomeHolds store.holds more id b) → (q b : List ℕ)
+  listed_wider : (stores more : List S) → ((id b : List ℕ) → SomeHolds store.members stores id b → SomeHolds store.members more id b) → (q b : List ℕ)
       → TakesListed store l stores q b → TakesListed store l more q b
   listed_wider stores more wider q b (i, inside, (is, chunk, held)) = (i, inside, (is, chunk, wider (id_of l i) b held))
 
-  same_holds : (a b : Kit S V) → map store.holds b.chain.stores ≡ map store.holds a.chain.stores → (id c : List ℕ) → SomeHolds store.holds b.chain.stores id c → SomeHolds store.holds a.chain.stores id c
-  same_holds a b same id c held = λ maps told. held maps (same ∙ told)
+  same_holds : (a b : Kit S V) → map store.members b.chain.stores ≡ map store.members a.chain.stores → (id c : List ℕ) → SomeHolds store.members b.chain.stores id c → SomeHolds store.members a.chain.stores id c
+  same_holds a b same id c held = λ maps told. held maps (ap told_together same ∙ told)
 
   -- where all kits are alike others add through their doors what the stores of this one give too
   pub door_lists : AreKitsAlike store view t kits → (first : Option (Map (List ℕ))) (c0 : Option Shelf) (q : Kit S V) (k : ℕ) → k < length kits
@@ -399,9 +390,9 @@ module _ {S V : Type 0} (store : StoreWords S) (view : ViewWords V) (l : Listing
         (listed_wider (all_stores kits) (slice_index_or kits 0 q).chain.stores (λ id c held. holds_alike store view t kits q alike id c held) p b (adds_listed store l kits p b may)))
         c0 c1 stocked
 
-    module _ (q b : Kit S V) (some : 0 < length kits) (same : map store.holds b.chain.stores ≡ map store.holds (slice_index_or kits 0 q).chain.stores) (e : Option Shelf)
+    module _ (q b : Kit S V) (some : 0 < length kits) (same : map store.members b.chain.stores ≡ map store.members (slice_index_or kits 0 q).chain.stores) (e : Option Shelf)
         (later : Stocked (Wants b.chain.stores) c1 e) where
-      first_all : (id c : List ℕ) → SomeHolds store.holds b.chain.stores id c → SomeHolds store.holds (all_stores kits) id c
+      first_all : (id c : List ℕ) → SomeHolds store.members b.chain.stores id c → SomeHolds store.members (all_stores kits) id c
       first_all id c held = holds_all store kits 0 q some id c (same_holds (slice_index_or kits 0 q) b same id c held)
 
       -- all of it some kit's stores hold

@@ -218,7 +218,7 @@ module _ {S V : Type 0} (store : StoreWords S) (view : ViewWords V) (r : Run) (d
             quiet_part f w1.faults end.faults end.faults (omega (arith, was.before, was.same, was.rises)) (omega arith) quiet,
           ))
           step.seeds.held step.seeds.never_fall (λ s. omega arith) (CacheGivesWant store view t (from (joined_stage w1 c1 b)) (from end) w)
-          (λ gives known. gives_between store view r.listing d x wants kits c0 c1 stocked z b any_kit step.stores.held end.cache passed.stretch.stocked (want_id r.listing d w) (size_of r.listing (first_of d w)) gives)
+          (λ gives known. gives_between store view r.listing d x wants kits c0 c1 stocked z b any_kit step.stores.members end.cache passed.stretch.stocked (want_id r.listing d w) (size_of r.listing (first_of d w)) gives)
           is
 
       pub used_twice : end.faults ≡ g → (answer : Result Report ExtractFault) → (IsUnshared all → ExactlyDealt never o 0 (sources f was_first.seeds.items c0 was_first.chain) (from end) answer)

@@ -1,6 +1,6 @@
 -- An assembly by several workers, of which the first makes the second pass. `o` are the target's bytes before it, p
 -- those after it.
-use Rattle.std.specs.Prelude.{◌≡◌, ◌⊎◌, ℕ, ◌<◌, ◌≤◌, List, ◌++◌, map, Bool, true, Option, Some, IfSome, IsTrue}
+use Rattle.std.specs.Prelude.{◌≡◌, ◌⊎◌, ℕ, ◌<◌, ◌≤◌, List, ◌++◌, Bool, true, Option, Some, IfSome, IsTrue}
 use Rattle.std.specs.Prelude.{is_some, Result}
 use Rattle.assembler.specs.Assemblies.{After, Assembles, IsObtainable, IsUnobtained, Verdict}
 use Rattle.assembler.specs.Obtainable.{OnlyObtainable}
@@ -14,6 +14,7 @@ use Rattle.chunk_sources.specs.Caches.{Stocked, TakesWants, cache_faults, given_
 use Rattle.chunk_sources.specs.Sources.{KeepsSeeds, Sources, Telling, views_of}
 use Rattle.chunk_sources.specs.Wants.{Task}
 use Rattle.chunk_sources.specs.declared.kit.Kit.{Kit}
+use Rattle.chunk_store.specs.Members.{maps_of}
 use Rattle.chunk_store.specs.declared.store.Store.{Ghosts as StoreWords}
 use Rattle.dsy_base.specs.Bytes.{Held, resized}
 use Rattle.dsy_base.specs.Counts.{Rose}
@@ -37,10 +38,10 @@ MayFillAlike r t i = (j : ℕ) × (j < count_of t.listing) × (want_at t.plan j 
 -- with seeds whose views hold this, a cache that gives what is told so, and stores that tell so: an entry may be filled
 -- where an alike one may be, or where it can be obtained, as far as that is told
 abbrev pub PermitsWith : Bool → Run → Task → List (Option Held) → Option (List (Map (List ℕ)))
-    → List (Option (Map (List ℕ))) → Type 0
+    → Option (List (Map (List ℕ))) → Type 0
 PermitsWith view_tells r t views given told = (i : ℕ) → i < count_of t.listing
     → (IsTrue r.tells → Telling view_tells views → (cached maps : List (Map (List ℕ))) → given ≡ Some cached
-    → told ≡ map Some maps → IsObtainable t r.base views (cached ++ maps) i ⊎ MayFillAlike r t i)
+    → told ≡ Some maps → IsObtainable t r.base views (cached ++ maps) i ⊎ MayFillAlike r t i)
     → r.may i ≡ true
 
 -- a target in shards of which the survey is over, and which held this and had failed so often at first
@@ -53,7 +54,7 @@ module _ {S V : Type 0} (store : StoreWords S) (view : ViewWords V) (r : Run) (t
   -- so it permits with this kit, and this door to the cache
   abbrev pub PermitsKit : Option Shelf → Kit S V → Type 0
   PermitsKit e k =
-      PermitsWith view.tells r t (views_of view k.seeds.items) (given_maps e) (map store.holds k.chain.stores)
+      PermitsWith view.tells r t (views_of view k.seeds.items) (given_maps e) (maps_of store.members k.chain.stores)
 
   -- the shards, the cache and the kit are those of a target that held these bytes, and of these sources, after the
   -- first pass. The run permits with the sources, and with what the cache may have given meanwhile
@@ -63,7 +64,7 @@ module _ {S V : Type 0} (store : StoreWords S) (view : ViewWords V) (r : Run) (t
     pub base : IfSome o (λ y. r.base ≡ resized y (image_length t.listing))
     pub told : is_some o ≡ r.tells
     pub tells : is_some w.held.bytes ≡ r.tells
-    pub permits : PermitsWith view.tells r t (views_of view old.seeds) given (map store.holds old.chain.stores)
+    pub permits : PermitsWith view.tells r t (views_of view old.seeds) given (maps_of store.members old.chain.stores)
     pub gives : GivesNoMore (kind_of t.listing) given cache
     pub falls : cache_faults old.cache ≤ cache_faults cache
     pub seeds : KeepsSeeds view old.seeds kit.seeds.items

@@ -12,14 +12,15 @@ use Rattle.assembler.specs.Permits.{deals_to}
 use Rattle.assembler.specs.declared.fault.ExtractFault.{ExtractFault}
 use Rattle.cache_store.specs.Shelves.{Shelf}
 use Rattle.caibx_codec.specs.Asks.{IsListedGet}
-use Rattle.caibx_codec.specs.Listing.{Listing, count_of, image_length, size_of}
+use Rattle.caibx_codec.specs.Listing.{Listing, count_of, image_length, size_of, kind_of}
 use Rattle.caibx_codec.specs.Right.{IsRightAt}
 use Rattle.chunk_sources.specs.Asks.{AsksAtMost, IsSpared, asks_below, calls_below, others_spared}
-use Rattle.chunk_sources.specs.Caches.{CacheGives, HaveOneSize, Stocked, TakesListed, cached_in}
+use Rattle.chunk_sources.specs.Caches.{CacheGives, HaveOneSize, Stocked, TakesListed, cached_in, IsListedAs}
 use Rattle.chunk_sources.specs.Economy.{source_of, pass_asks, source_if, sum_below}
 use Rattle.chunk_sources.specs.Sources.{KeepsSeeds, Sources, SourcesQuiet, Telling, sources, views_of}
 use Rattle.chunk_sources.specs.Wants.{Task}
 use Rattle.chunk_sources.specs.declared.kit.Kit.{Kit}
+use Rattle.chunk_store.specs.Members.{maps_of}
 use Rattle.chunk_store.specs.declared.store.Store.{Ghosts as StoreWords}
 use Rattle.dsy_base.specs.Bytes.{Held, resized}
 use Rattle.dsy_base.specs.Counts.{Rose, raised}
@@ -111,17 +112,18 @@ module _ {S V : Type 0} (store : StoreWords S) (view : ViewWords V) (t : Task) w
   abbrev pub AreKitsAlike : List (Kit S V) → Type 0
   AreKitsAlike kits = (k : ℕ) (q : Kit S V) → k < length kits →
       (views_of view (slice_index_or kits k q).seeds.items ≡ views_of view (slice_index_or kits 0 q).seeds.items)
-      × (map store.holds (slice_index_or kits k q).chain.stores
-      ≡ map store.holds (slice_index_or kits 0 q).chain.stores)
+      × (map store.members (slice_index_or kits k q).chain.stores
+      ≡ map store.members (slice_index_or kits 0 q).chain.stores)
 
   -- the seeds of each kit tell what they hold, and its stores do
   abbrev pub AllKitsTell : List (Kit S V) → Type 0
   AllKitsTell kits = All (λ k. Telling view.tells (views_of view k.seeds.items)
-      × ((maps : List (Map (List ℕ))) × (map store.holds k.chain.stores ≡ map Some maps))) kits
+      × ((maps : List (Map (List ℕ))) × (maps_of store.members k.chain.stores ≡ Some maps))) kits
 
   -- entry i can be obtained with one of these kits, over these bytes of the target; the cache holds these maps
   abbrev pub SomeKitHas : List (Kit S V) → List (Map (List ℕ)) → List ℕ → ℕ → Type 0
-  SomeKitHas kits cached y i = Any (λ k. (maps : List (Map (List ℕ))) × (map store.holds k.chain.stores ≡ map Some maps)
+  SomeKitHas kits cached y i = Any (λ k. (maps : List (Map (List ℕ)))
+      × (maps_of store.members k.chain.stores ≡ Some maps)
       × IsObtainable t (resized y (image_length t.listing)) (views_of view k.seeds.items) (cached ++ maps) i) kits
 
   -- what may be filled can be obtained with one of these kits over the target's bytes, where all of them tell, and the
@@ -135,7 +137,8 @@ module _ {S V : Type 0} (store : StoreWords S) (view : ViewWords V) (t : Task) w
   abbrev pub WhereAllQuiet : Lent S V → Lent S V → (Sources S V → List (Map (List ℕ)) → List (Map (List ℕ)) → Type 0)
       → Type 0
   WhereAllQuiet old new P = (q j : Kit S V) (cached maps : List (Map (List ℕ)))
-      → ((k : ℕ) → k < length old.kits → SourcesQuiet store view (at_kit old k q) (at_kit new k j) cached maps)
+      → ((k : ℕ) → k < length old.kits → SourcesQuiet store view (kind_of t.listing)
+      (IsListedAs t.listing) (at_kit old k q) (at_kit new k j) cached maps)
       → HaveOneSize t.listing old.cache cached maps → P (at_kit old 0 q) cached maps
 
   -- what an assembly has done, from these bytes and this loan to those. A lost entry is one that the first kit didn't

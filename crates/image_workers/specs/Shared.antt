@@ -42,12 +42,6 @@ abbrev pub all_stores : {S V : Type 0} → List (Kit S V) → List S
 all_stores [] = []
 all_stores (k ∷ ks) = k.chain.stores ++ all_stores ks
 
--- what all of these tell, where all do
-abbrev pub all_told : {X : Type 0} → List (Option X) → Option (List X)
-all_told [] = Some []
-all_told (None ∷ os) = None
-all_told (Some x ∷ os) = option_map (λ xs. x ∷ xs) (all_told os)
-
 -- what these stores give for the entries of an index may be added to a shared cache
 abbrev pub MayAddFrom : {S : Type 0} → StoreWords S → Listing → List S → Option Shelf → Type 0
 MayAddFrom store l stores cache = IfSome cache (λ s. IfSome s.others

@@ -12,11 +12,12 @@ ghost use Rattle.chunk_sources.specs.Caches.{seen};
 ghost use Rattle.chunk_sources.specs.Losses.{MayLack};
 ghost use Rattle.chunk_sources.specs.declared.kit.Kit.{Kit};
 ghost use Rattle.chunk_store.specs.Kinds.{kind_named};
+ghost use Rattle.chunk_store.specs.Members.{maps_of};
 ghost use Rattle.dsy_base.specs.Bytes.{Held};
 ghost use Rattle.image_workers.specs.Beside.{BegunBeside, PermitsKit};
 ghost use Rattle.image_workers.specs.Kits.{IsAssembledBy, MayFillFrom};
 ghost use Rattle.image_workers.specs.Lanes.{IsReadyFor};
-ghost use Rattle.image_workers.specs.Shared.{NamesShelf, all_stores, all_told, door_shelf, pairs_of};
+ghost use Rattle.image_workers.specs.Shared.{NamesShelf, all_stores, door_shelf, pairs_of};
 ghost use Rattle.range_ledger.specs.Fills.{WhereTold};
 
 use crate::assembled::Assembled;
@@ -118,7 +119,7 @@ where
     requires named { IfSome (seen F.Look cache) (NamesShelf (kind_named N.kind) N.opening N.place N.faults) }
     requires kind { kind_named N.kind ≡ kind_of R.run.listing }
     requires pairs { N.pairs ≡ Some (pairs_of R.run.listing) }
-    requires stores { N.stores ≡ all_told (map S.holds (all_stores workers.kits.items)) }
+    requires stores { N.stores ≡ maps_of S.members (all_stores workers.kits.items) }
     requires many { 2 ≤ vec_len workers.kits }
     requires workers { wants.now.plan.now.workers ≡ vec_len workers.kits }
     requires ready { (k : ℕ) (q : Kit S V) → k < length workers.kits.items → IsReadyFor S.Store V.View R.run

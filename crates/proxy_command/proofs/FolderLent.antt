@@ -6,7 +6,7 @@ use Rattle.std.specs.Option.{option_map}
 use Rattle.chunk_proxy.specs.States.{is_sure}
 use Rattle.chunk_store.specs.Asks.{sends_nothing}
 use Rattle.chunk_store.specs.Folders.{chunks}
-use Rattle.chunk_store.specs.Said.{said_by}
+use Rattle.chunk_store.specs.Said.{just_one, said_by}
 use Rattle.chunk_store.specs.declared.id.DigestKind.{DigestKind}
 use Rattle.chunk_store.specs.declared.store.Store.{Ghosts as StoreWords}
 use Rattle.command_groups.specs.Groups.{group_files, stores_of}
@@ -33,6 +33,7 @@ use Rattle.store_group.specs.Groups.{Grouped, as_store, group_holds, group_place
 abbrev pub folder_words : {L : Type 0} → LookWords L → StoreWords L
 folder_words look = record {
   holds = λ s. option_map chunks (look.files s);
+  members = λ s. just_one (option_map chunks (look.files s));
   folder = λ s. look.files s;
   said = λ s. said_by (option_map chunks (look.files s));
   sent = λ s. sends_nothing;

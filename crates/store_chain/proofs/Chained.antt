@@ -4,20 +4,20 @@ use Rattle.std.proofs.Common.{◌≡◌, ℕ, ◌≤◌, List, ◌++◌, length,
 use Rattle.std.proofs.lemmas.List.{take-append-le}
 use Rattle.std.proofs.Math.Seq.{take-append_seam}
 use Rattle.chunk_store.specs.Asks.{Ask}
-use Rattle.chunk_store.specs.Said.{Said, SaysMap}
+use Rattle.chunk_store.specs.Said.{Said, SaysAmong, SaysMap}
 use Rattle.chunk_store.specs.declared.store.Store.{Ghosts as StoreWords}
 use Rattle.dsy_base.specs.Counts.{Rose}
 use Rattle.dsy_base.specs.Maps.{Map}
 use Rattle.store_chain.specs.Chains.{KeepsStores, EachOnce}
 use Rattle.store_chain.specs.Faults.{EachQuiet}
-use Rattle.store_chain.specs.Giving.{LacksAll, GivesFirst, Obtains, SomeHolds}
+use Rattle.store_chain.specs.Giving.{LacksAll, LacksTogether, GivesFirst, Obtains, SomeHolds}
 use Rattle.store_chain.specs.Refusals.{Lacked, LackedOrFailed, GivenBy, Refuses, RefusesFrom}
 use Rattle.store_chain.specs.Queries.{FillsQuery}
 use Rattle.store_chain.specs.declared.refused.Refused.{Refused}
 use Rattle.store_chain.specs.declared.refused.Refused.TheVariants as refused
 use Rattle.store_chain.specs.declared.query.Query.{Query}
 use Rattle.store_chain.proofs.Kept.{kept_weaker}
-use Rattle.store_chain.proofs.Shown.{some_holds}
+use Rattle.store_chain.proofs.Shown.{lacks_together, some_holds}
 use Rattle.store_chain.proofs.Told.{lacks_all, obtains, refuses}
 use Rattle.store_chain.proofs.Pairs.{rose_at}
 
@@ -39,12 +39,12 @@ module _ {S : Type 0} (said : S → Said) (faults : S → ℕ) (lacks_memory : B
       subst P b (subst Q same (subst R same_old (subst T same_new found)))
 
   -- one of the stores holds it, where they tell what they hold
-  pub had_in : (holds : S → Option (Map (List ℕ))) → ((s : S) → IfSome (holds s) (SaysMap (said s))) → map holds new ≡ map holds old → (r : Result ℕ Refused) (lent rest : List ℕ)
-      → IfOk r (λ n. FillsQuery w n lent) → IfOk r (λ n. GivenBy said faults lacks_memory w (take n lent) old new) → IfOk r (λ n. SomeHolds holds old' w'.id.0 (take n (lent ++ rest)))
-  had_in holds says kept (Err e) lent rest given found = tt
-  had_in holds says kept (Ok n) lent rest given found =
-      let still : map holds new' ≡ map holds old' = ap (λ (l : List S). map holds l) (sym same_new) ∙ (kept ∙ ap (λ (l : List S). map holds l) same_old) in
-      some_holds holds said says w'.id.0 (take n (lent ++ rest)) faults lacks_memory w' old' new' refl still (found_in (Ok n) lent rest given found)
+  pub had_in : (members : S → Option (List (Map (List ℕ)))) → ((s : S) → IfSome (members s) (SaysAmong (said s))) → map members new ≡ map members old → (r : Result ℕ Refused) (lent rest : List ℕ)
+      → IfOk r (λ n. FillsQuery w n lent) → IfOk r (λ n. GivenBy said faults lacks_memory w (take n lent) old new) → IfOk r (λ n. SomeHolds members old' w'.id.0 (take n (lent ++ rest)))
+  had_in members vouched kept (Err e) lent rest given found = tt
+  had_in members vouched kept (Ok n) lent rest given found =
+      let still : map members new' ≡ map members old' = ap (λ (l : List S). map members l) (sym same_new) ∙ (kept ∙ ap (λ (l : List S). map members l) same_old) in
+      some_holds members said vouched w'.id.0 (take n (lent ++ rest)) faults lacks_memory w' old' new' refl still (found_in (Ok n) lent rest given found)
 
   pub absent_in : (r : Result ℕ Refused) → IfErr r (RefusesFrom said faults lacks_memory w 0 old new) → IfErr r (Refuses said faults lacks_memory w' old' new')
   absent_in (Ok n) told = tt
@@ -53,6 +53,15 @@ module _ {S : Type 0} (said : S → Said) (faults : S → ℕ) (lacks_memory : B
       let Q : List S → Type 0 = λ l. Refuses said faults lacks_memory w l new' e in
       let R : List S → Type 0 = λ l. Refuses said faults lacks_memory w old l e in
       subst P same (subst Q same_old (subst R same_new (refuses said faults lacks_memory w old new e told)))
+
+  -- those who answer lack the chunk
+  pub lacks_in : (members : S → Option (List (Map (List ℕ)))) → ((s : S) → IfSome (members s) (SaysAmong (said s))) → map members new ≡ map members old → (r : Result ℕ Refused)
+      → IfErr r (RefusesFrom said faults lacks_memory w 0 old new) → IfErr r (LacksTogether w' (map members old'))
+  lacks_in members vouched kept (Ok n) told = tt
+  lacks_in members vouched kept (Err e) told =
+      let P : Query → Type 0 = λ v. LacksTogether v (map members old') e in
+      let Q : List S → Type 0 = λ l. LacksTogether w (map members l) e in
+      subst P same (subst Q same_old (lacks_together members said vouched w faults lacks_memory old new e kept (refuses said faults lacks_memory w old new e told)))
 
   pub cause_in : (r : Result ℕ Refused) (s : ℕ) → IfErr r (RefusesFrom said faults lacks_memory w 0 old new) → r ≡ Err (refused.StoreFault s)
       → Rose (slice_index (map faults old') s) (slice_index (map faults new') s)

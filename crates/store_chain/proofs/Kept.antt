@@ -59,6 +59,7 @@ module _ {S : Type 0} (store : StoreWords S) (P : Ask → Type 0) where
   pub kept_still : (xs : List S) → KeepsStores store P xs xs
   kept_still xs = record {
     held = refl;
+    members = refl;
     files = refl;
     places = refl;
     says = all_zip_same (λ a b. (q : List ℕ) → KeepsOf (store.said a) (store.said b) q) (λ s. keeps_itself (store.said s)) xs;
@@ -70,6 +71,7 @@ module _ {S : Type 0} (store : StoreWords S) (P : Ask → Type 0) where
   pub kept_on : (xs ys zs : List S) → KeepsStores store P xs ys → KeepsStores store P ys zs → KeepsStores store P xs zs
   kept_on xs ys zs first then = record {
     held = then.held ∙ first.held;
+    members = then.members ∙ first.members;
     files = then.files ∙ first.files;
     places = then.places ∙ first.places;
     says = said_all store.said xs ys zs first.says then.says;
@@ -81,6 +83,7 @@ module _ {S : Type 0} (store : StoreWords S) (P : Ask → Type 0) where
   pub kept_weaker : (Q : Ask → Type 0) → ((a : Ask) → P a → Q a) → (xs ys : List S) → KeepsStores store P xs ys → KeepsStores store Q xs ys
   kept_weaker Q more xs ys h = record {
     held = h.held;
+    members = h.members;
     files = h.files;
     places = h.places;
     says = h.says;
@@ -89,7 +92,7 @@ module _ {S : Type 0} (store : StoreWords S) (P : Ask → Type 0) where
   }
 
   -- from the first of them and the rest
-  module _ (x y : S) (xs ys zs : List S) (is : zs ≡ x ∷ xs) (same : store.holds y ≡ store.holds x) (lies : store.folder y ≡ store.folder x) (there : store.place y ≡ store.place x)
+  module _ (x y : S) (xs ys zs : List S) (is : zs ≡ x ∷ xs) (same : store.holds y ≡ store.holds x) (members : store.members y ≡ store.members x) (lies : store.folder y ≡ store.folder x) (there : store.place y ≡ store.place x)
       (says : (q : List ℕ) → KeepsOf (store.said x) (store.said y) q) (sends : Sends P (store.sent x) (store.sent y)) (never_falls : store.faults x ≤ store.faults y) where
     none_falls : NoneFalls (map store.faults xs) (map store.faults ys) → NoneFalls (map store.faults (x ∷ xs)) (map store.faults (y ∷ ys))
     none_falls rest zero = never_falls
@@ -100,6 +103,7 @@ module _ {S : Type 0} (store : StoreWords S) (P : Ask → Type 0) where
         let K : List S → Type 0 = λ l. KeepsStores store P l (y ∷ ys) in
         subst K (sym is) (record {
           held = λ i. same i ∷ rest.held i;
+          members = λ i. members i ∷ rest.members i;
           files = λ i. lies i ∷ rest.files i;
           places = λ i. there i ∷ rest.places i;
           says = (says, rest.says);

@@ -17,7 +17,7 @@ use Rattle.store_chain.specs.declared.refused.Refused.TheVariants as refused
 use Rattle.store_chain.specs.declared.query.Query.{Query}
 use Rattle.store_chain.proofs.Pairs.{cons_head, cons_tail, cons_nil, rose_at}
 
-some_injective : {X : Type 0} (a b : X) → Some a ≡ Some b → a ≡ b
+pub some_injective : {X : Type 0} (a b : X) → Some a ≡ Some b → a ≡ b
 some_injective a b e = cc
 
 sized_not : (size : Option ℕ) (k n : ℕ) → n ≡ k → IfSome size (λ s. k ≡ s) → IsSomeAnd size (λ s. n ≢ s) → ⊥
@@ -25,7 +25,7 @@ sized_not None k n same is not = not
 sized_not (Some s) k n same is not = not (same ∙ is)
 
 -- bytes that are what is wanted show nothing else
-not_both : (w : Query) (a b : List ℕ) (x : Shows) → a ≡ b → IsWanted w a → ShowsElse w b x → ⊥
+pub not_both : (w : Query) (a b : List ℕ) (x : Shows) → a ≡ b → IsWanted w a → ShowsElse w b x → ⊥
 not_both w a b shows.Longer same wanted else = let e = ap length same in absurd (omega (arith, wanted.fits, else, e))
 not_both w a b (shows.Digest x) same wanted else = let n = wanted.named in let e = else.1 in else.2 cc
 not_both w a b (shows.Length n) same wanted else = sized_not w.size (length a) n (let e = ap length same in let l = else.2 in cc) wanted.sized else.3

@@ -1,6 +1,7 @@
 -- When stores give a chunk, and what they lack where they don't. A store is the map from ids to bytes that it holds.
-use Rattle.std.specs.Prelude.{◌≡◌, ℕ, List, map, take, Option, Some, None, Result, Ok, Err, Bool, IsTrue}
+use Rattle.std.specs.Prelude.{◌≡◌, ℕ, List, take, Option, Some, None, Result, Ok, Err, Bool, IsTrue}
 use Rattle.std.specs.List.{All, Any}
+use Rattle.chunk_store.specs.Members.{GroupsAgree, maps_of, told_together}
 use Rattle.chunk_store.specs.declared.shows.Shows.{Shows}
 use Rattle.dsy_base.specs.Maps.{Map}
 use Rattle.store_chain.specs.Lists.{FirstAt}
@@ -19,9 +20,9 @@ Gives w m = (b : List ℕ) × (m w.id.0 ≡ Some b) × IsWanted w b
 abbrev pub HoldsElse : Query → Shows → Map (List ℕ) → Type 0
 HoldsElse w x m = (b : List ℕ) × (m w.id.0 ≡ Some b) × ShowsElse w b x
 
--- some of these stores holds the bytes under the id, where all of them tell what they hold
-abbrev pub SomeHolds : {S : Type 0} → (S → Option (Map (List ℕ))) → List S → List ℕ → List ℕ → Type 0
-SomeHolds holds stores id b = (maps : List (Map (List ℕ))) → map holds stores ≡ map Some maps
+-- some member of these stores holds the bytes under the id, where all of them tell what they hold
+abbrev pub SomeHolds : {S : Type 0} → (S → Option (List (Map (List ℕ)))) → List S → List ℕ → List ℕ → Type 0
+SomeHolds members stores id b = (maps : List (Map (List ℕ))) → maps_of members stores ≡ Some maps
     → Any (λ m. m id ≡ Some b) maps
 
 -- the maps lack the chunk: all hold nothing under the id, or this is the first that holds something, and none gives.
@@ -31,6 +32,18 @@ LacksAll w maps refused.Missing = All (HoldsNone w) maps
 LacksAll w maps (refused.Damaged s x) = FirstAt (HoldsNone w) (HoldsElse w x) (λ m. Gives w m → ⊥) s maps
 LacksAll w maps (refused.StoreFault s) = Unit {0}
 LacksAll w maps refused.Memory = Unit {0}
+
+-- no member of these stores gives the chunk, if the members of each store agree on it
+abbrev pub NoneGives : Query → List (Option (List (Map (List ℕ)))) → Type 0
+NoneGives w groups = (maps : List (Map (List ℕ))) → told_together groups ≡ Some maps → GroupsAgree (Gives w) groups
+    → All (λ m. Gives w m → ⊥) maps
+
+-- the same by what was answered. Faults and want of memory are free
+abbrev pub LacksTogether : Query → List (Option (List (Map (List ℕ)))) → Refused → Type 0
+LacksTogether w groups refused.Missing = NoneGives w groups
+LacksTogether w groups (refused.Damaged s x) = NoneGives w groups
+LacksTogether w groups (refused.StoreFault s) = Unit {0}
+LacksTogether w groups refused.Memory = Unit {0}
 
 -- the bytes are those of the first map that gives. One that had no memory may be passed
 abbrev pub GivesFirst : Bool → Query → List (Map (List ℕ)) → List ℕ → Type 0

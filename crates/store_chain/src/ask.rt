@@ -24,6 +24,7 @@ fn ask<S: Store>(
         (take n out.new)) }
     ensures err { IfErr result (Tells S.said S.faults S.may_lack_memory query.now number store.old store.new) }
     ensures kept { S.holds store.new ≡ S.holds store.old }
+    ensures members { S.members store.new ≡ S.members store.old }
     ensures files { S.folder store.new ≡ S.folder store.old }
     ensures place { S.place store.new ≡ S.place store.old }
     ensures said { (q : List ℕ) → KeepsOf (S.said store.old) (S.said store.new) q }

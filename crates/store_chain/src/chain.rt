@@ -9,7 +9,7 @@ ghost use Rattle.dsy_base.specs.Counts.{Rose};
 ghost use Rattle.dsy_base.specs.Maps.{Map};
 ghost use Rattle.store_chain.specs.Chains.{KeepsStores, AsksOnce, AsksNone, EachOnce};
 ghost use Rattle.store_chain.specs.Faults.{EachQuiet};
-ghost use Rattle.store_chain.specs.Giving.{LacksAll, Obtains, SomeHolds};
+ghost use Rattle.store_chain.specs.Giving.{LacksAll, LacksTogether, Obtains, SomeHolds};
 ghost use Rattle.store_chain.specs.Refusals.{GivenBy, Refuses, HasFails};
 ghost use Rattle.store_chain.specs.Queries.{FillsQuery, query_of};
 
@@ -102,7 +102,9 @@ impl<S: Store> Chain<S> {
             (query_of self.old.kind id.now size (length out.old)) self.old.stores self.new.stores) }
 
         // What stores hold that tell it, whatever fails.
-        ensures had { IfOk result (λ n. SomeHolds S.holds self.old.stores id.now.0 (take n out.new)) }
+        ensures had { IfOk result (λ n. SomeHolds S.members self.old.stores id.now.0 (take n out.new)) }
+        ensures lacks { IfErr result (LacksTogether (query_of self.old.kind id.now size (length out.old))
+            (map S.members self.old.stores)) }
         ensures first { (maps : List (Map (List ℕ))) → map S.holds self.old.stores ≡ map Some maps →
             IfErr result (LacksAll (query_of self.old.kind id.now size (length out.old)) maps) }
         ensures exactly { (maps : List (Map (List ℕ))) → map S.holds self.old.stores ≡ map Some maps →

@@ -20,6 +20,7 @@ fn has_one<S: Store>(store: &mut S, number: u32, id: &ChunkId) -> Result<bool, H
     ensures absent { result ≡ Ok false → (S.said store.new).denied id.now.0 }
     ensures err { IfErr result (HasTells S.said S.faults id.now.0 S.may_lack_memory number store.old store.new) }
     ensures kept { S.holds store.new ≡ S.holds store.old }
+    ensures members { S.members store.new ≡ S.members store.old }
     ensures files { S.folder store.new ≡ S.folder store.old }
     ensures place { S.place store.new ≡ S.place store.old }
     ensures said { (q : List ℕ) → KeepsOf (S.said store.old) (S.said store.new) q }

@@ -112,9 +112,11 @@ impl ScriptedStore {
 impl Store for ScriptedStore {
     ghost use Rattle.std.specs.Prelude.{[], true, false, refl};
     ghost use Rattle.std.proofs.Common.{rules};
-    ghost use Rattle.chunk_store.specs.Said.{says_map};
+    ghost use Rattle.chunk_store.specs.Said.{answers_alone, just_one, says_map, vouched_map};
 
     ghost holds = { λ s. ⟦<MemStore as Store>⟧.holds s.chunks };
+
+    ghost members = { λ s. just_one (⟦<MemStore as Store>⟧.holds s.chunks) };
 
     ghost said = { λ s. ⟦<MemStore as Store>⟧.said s.chunks };
 
@@ -146,6 +148,10 @@ impl Store for ScriptedStore {
         self.admit(id)?;
         self.chunks.has(id)
     }
+
+    ghost alone = { λ s. answers_alone (⟦<MemStore as Store>⟧.holds s.chunks) };
+
+    ghost vouched = { λ s. vouched_map (⟦<MemStore as Store>⟧.holds s.chunks) };
 
     ghost says = { λ s. says_map (⟦<MemStore as Store>⟧.holds s.chunks) };
 

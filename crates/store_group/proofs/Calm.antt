@@ -1,5 +1,5 @@
 -- Groups of stores that never fail: the active store answers alone, and stays active.
-use Rattle.std.proofs.Common.{◌≡◌, ◌≢◌, inl, inr, ℕ, zero, suc, ◌+◌, ◌≤◌, ◌<◌, List, [], ◌∷◌, length, Bool, true, false, ◌&&◌, Option, Some, None, IfSome, IsSome, IsTrue, is_some, take, drop, slice_get, refl, sym, ap, subst, arith, ◌⊎◌, ◌-◌, ◌^◌}
+use Rattle.std.proofs.Common.{◌≡◌, inl, inr, ℕ, zero, suc, ◌+◌, ◌≤◌, ◌<◌, List, [], ◌∷◌, length, Bool, true, false, ◌&&◌, Option, Some, None, IfSome, IsSome, IsTrue, is_some, take, drop, slice_get, refl, sym, ap, subst, arith, ◌⊎◌, ◌-◌, ◌^◌}
 use Rattle.std.proofs.lemmas.Bool.{cases_lt}
 use Rattle.std.specs.List.{AllByRecursion, AllZip}
 use Rattle.chunk_store.proofs.Said.{keeps_itself}
@@ -7,9 +7,9 @@ use Rattle.chunk_store.specs.Said.{KeepsOf, Said, said_by}
 use Rattle.chunk_store.specs.declared.store.Store.{Ghosts as StoreWords}
 use Rattle.dsy_base.specs.Counts.{Rose, raised}
 use Rattle.dsy_base.specs.Maps.{Map}
-use Rattle.store_group.proofs.Groups.{answers_unfailed, as_steady, group_asked, group_place_kept, group_says, sent_kept}
+use Rattle.store_group.proofs.Groups.{answers_unfailed, as_steady, group_asked, group_place_kept, group_says, maps_kept, sent_kept}
 use Rattle.store_group.specs.Answers.{AnswersAt, AnswersFirst, AnswersRound, AskedUpTo, FailsAll, AnswerSays, times_for}
-use Rattle.store_group.specs.Groups.{CountsByAnswer, Grouped, active_store, all_tell, as_store_by, both_true, group_faults, no_chunks, of_one, of_store, said_of, said_of_store, said_steady, steady_of, steady_store}
+use Rattle.store_group.specs.Groups.{CountsByAnswer, Grouped, active_store, all_tell, as_store_by, both_true, group_faults, told_or_all, no_chunks, of_one, of_store, said_of, said_of_store, said_steady, steady_of, steady_store}
 use Rattle.store_group.specs.declared.answer.Answer.{Answer}
 use Rattle.store_group.specs.declared.answer.Answer.TheVariants as answer
 use Rattle.store_group.specs.declared.answer.Question.{Question}
@@ -203,6 +203,7 @@ module _ {S : Type 0} (store : StoreWords S) (sure : (s : S) → store.faults s 
       let once : of_store (λ x. 0) store.asked p id ≤ of_store (λ x. 0) store.asked o id + 1 = once_more (Turn question.Get) store.asked id (turn_once question.Get) o p both in
       record {
         holds = seen_kept (Turn question.Get) (Some no_chunks) store.holds (λ s t u. u.holds) o p both;
+        members = λ i. told_or_all (seen_kept (Turn question.Get) (Some no_chunks) store.holds (λ s t u. u.holds) o p both i) (maps_kept (Turn question.Get) store.members (λ s t u. u.members) g.stores h.stores turns i);
         folder = seen_kept (Turn question.Get) None store.folder (λ s t u. u.folder) o p both;
         place = group_place_kept store id g h same question.Get turns;
         said = told_kept (Turn question.Get) store.said (λ s t u. u.said) o p both;
@@ -221,6 +222,7 @@ module _ {S : Type 0} (store : StoreWords S) (sure : (s : S) → store.faults s 
       let once : of_store (λ x. 0) store.queried p id ≤ of_store (λ x. 0) store.queried o id + 1 = once_more (Turn question.Has) store.queried id (turn_once question.Has) o p both in
       record {
         holds = seen_kept (Turn question.Has) (Some no_chunks) store.holds (λ s t u. u.holds) o p both;
+        members = λ i. told_or_all (seen_kept (Turn question.Has) (Some no_chunks) store.holds (λ s t u. u.holds) o p both i) (maps_kept (Turn question.Has) store.members (λ s t u. u.members) g.stores h.stores turns i);
         folder = seen_kept (Turn question.Has) None store.folder (λ s t u. u.folder) o p both;
         place = group_place_kept store id g h same question.Has turns;
         said = told_kept (Turn question.Has) store.said (λ s t u. u.said) o p both;
@@ -282,6 +284,7 @@ module _ {S : Type 0} (store : StoreWords S) (steady : (s : S) → IsTrue store.
   -- what the group tells is kept, where what any of its stores tells is, and the active store is the same if none fails
   record Keeps : Type 0 where
     holds : (as_store_by false store).holds h ≡ (as_store_by false store).holds g
+    members : (as_store_by false store).members h ≡ (as_store_by false store).members g
     folder : (as_store_by false store).folder h ≡ (as_store_by false store).folder g
     said : (x : List ℕ) → KeepsOf ((as_store_by false store).said g) ((as_store_by false store).said h) x
 
@@ -290,15 +293,17 @@ module _ {S : Type 0} (store : StoreWords S) (steady : (s : S) → IsTrue store.
       let o : Option S = steady_store store.told_never_fail store.holds g in
       let p : Option S = steady_store store.told_never_fail store.holds h in
       let both : Both (Turning q) o p = both_of q turns stays (IsSteady g) (IsSteady h) refl (steady_still q turns) in
+      let held : (as_store_by false store).holds h ≡ (as_store_by false store).holds g = both_seen (Turning q) (λ x y. y ≡ x) (of_one store.holds g.stores) (of_one store.holds h.stores) store.holds plain.holds (λ s t u. u.holds) o p both in
       record {
-        holds = both_seen (Turning q) (λ x y. y ≡ x) (of_one store.holds g.stores) (of_one store.holds h.stores) store.holds plain.holds (λ s t u. u.holds) o p both;
+        holds = held;
+        members = λ i. told_or_all (held i) (maps_kept (Turning q) store.members (λ s t u. u.members) g.stores h.stores turns i);
         folder = both_seen (Turning q) (λ x y. y ≡ x) (of_one store.folder g.stores) (of_one store.folder h.stores) store.folder plain.folder (λ s t u. u.folder) o p both;
         said = λ x. both_said (Turning q) store.said x g.stores h.stores (plain.said x) (λ s t u. u.said x) o p both;
       }
 
   asked_so : (q : Question) → Keeps → AskedUpTo (as_steady false store) q 1 id g h → AskedUpTo (as_store_by false store) q 1 id g h
-  asked_so question.Get k a = record { holds = k.holds; folder = k.folder; place = a.place; said = k.said; sends = a.sends; this = a.this; no_less = a.no_less; others = a.others; stays = a.stays; faults = a.faults; paid = a.paid }
-  asked_so question.Has k a = record { holds = k.holds; folder = k.folder; place = a.place; said = k.said; sends = a.sends; this = a.this; no_less = a.no_less; others = a.others; stays = a.stays; faults = a.faults; paid = a.paid }
+  asked_so question.Get k a = record { holds = k.holds; members = k.members; folder = k.folder; place = a.place; said = k.said; sends = a.sends; this = a.this; no_less = a.no_less; others = a.others; stays = a.stays; faults = a.faults; paid = a.paid }
+  asked_so question.Has k a = record { holds = k.holds; members = k.members; folder = k.folder; place = a.place; said = k.said; sends = a.sends; this = a.this; no_less = a.no_less; others = a.others; stays = a.stays; faults = a.faults; paid = a.paid }
 
   -- the group was asked, where the active store is the same if none fails
   steady_asked : (same : h.retries ≡ g.retries) (counts : g.failed ≤ h.failed) (q : Question) → AllZip (Turning q) g.stores h.stores → (IsTrue (IsSteady g) → h.active ≡ g.active) → AskedUpTo (as_store_by false store) q 1 id g h

@@ -1,15 +1,17 @@
 -- What a group keeps and counts as one store.
-use Rattle.std.proofs.Common.{◌≡◌, ◌≢◌, inl, inr, ℕ, zero, suc, ◌+◌, ◌*◌, ◌/◌, ◌≤◌, ◌<◌, List, [], ◌∷◌, ◌++◌, length, max, Option, Some, None, IfSome, IsTrue, Bool, false, is_some, take, drop, refl, sym, subst, ap, ◌∙◌, arith}
+use Rattle.std.proofs.Common.{◌≡◌, ◌≢◌, inl, inr, ℕ, zero, suc, ◌+◌, ◌*◌, ◌/◌, ◌≤◌, ◌<◌, List, [], ◌∷◌, ◌++◌, length, map, max, Option, Some, None, IfSome, IsTrue, Bool, false, is_some, take, drop, refl, sym, subst, ap, ◌∙◌, arith}
 use Rattle.std.specs.List.{AllByRecursion, AllZip}
 use Rattle.std.proofs.Math.Nat.{add-div_right, add-mul, div-mul-le_self, mod-lt, mul-le-mul_right}
 use Rattle.std.proofs.Math.Seq.{drop-append_seam, take-append_seam}
 use Rattle.std.proofs.lemmas.Nat.{div-add-mod', le-div}
 use Rattle.chunk_store.specs.Asks.{Sends}
+use Rattle.chunk_store.specs.Members.{maps_of, told_together}
 use Rattle.chunk_store.specs.Said.{AskedOnce, KeepsOf}
 use Rattle.chunk_store.specs.declared.store.Store.{Ghosts as StoreWords}
 use Rattle.dsy_base.specs.Counts.{raised}
+use Rattle.dsy_base.specs.Maps.{Map}
 use Rattle.store_group.specs.Answers.{AnswersAt, AnswersFirst, AnswersRound, AskedUpTo, FailsAll, AnswerSays, ask_for, times_for, times_other}
-use Rattle.store_group.specs.Groups.{Grouped, as_store_by, SomeStore, asked_name, files_code, group_count, group_place, most, of_one, of_store, places_of, questions_of, said_of, said_steady, sent_of, steady_of, told_file_code}
+use Rattle.store_group.specs.Groups.{Grouped, as_store_by, SomeStore, asked_name, files_code, group_count, group_place, told_or_all, most, of_one, of_store, places_of, questions_of, said_of, said_steady, sent_of, steady_of, told_file_code}
 use Rattle.store_group.specs.declared.answer.Answer.{Answer}
 use Rattle.store_group.specs.declared.answer.Answer.TheVariants as answer
 use Rattle.store_group.specs.declared.answer.Question.{Question}
@@ -150,6 +152,14 @@ one_kept R tells f (s ∷ []) (x ∷ y ∷ xs) h = absurd h.1
 one_kept R tells f (s ∷ t ∷ old) (x ∷ []) h = absurd h.1
 one_kept R tells f (s ∷ t ∷ old) (x ∷ y ∷ xs) h = refl
 
+pub maps_kept : {S : Type 0} (R : S → S → Type 0) (members : S → Option (List (Map (List ℕ)))) → ((s t : S) → R s t → members t ≡ members s) → (old xs : List S) → AllZip R old xs → maps_of members xs ≡ maps_of members old
+maps_kept {S} R members f old xs h = ap told_together (each_kept old xs h) where
+  each_kept : (old xs : List S) → AllZip R old xs → map members xs ≡ map members old
+  each_kept [] [] h = refl
+  each_kept [] (x ∷ xs) h = absurd h
+  each_kept (s ∷ old) [] h = absurd h
+  each_kept (s ∷ old) (x ∷ xs) h = λ i. f s x h.0 i ∷ each_kept old xs h.1 i
+
 pub place_kept : {S : Type 0} (R : S → S → Type 0) (place : S → List ℕ) → ((s t : S) → R s t → place t ≡ place s) → (old xs : List S) → AllZip R old xs → places_of place xs ≡ places_of place old
 place_kept R place f [] [] h = refl
 place_kept R place f [] (x ∷ xs) h = absurd h
@@ -266,6 +276,7 @@ module _ {S : Type 0} (store : StoreWords S) (q : Question) (r : ℕ) (id : List
 abbrev pub as_steady : {S : Type 0} → Bool → StoreWords S → StoreWords (Grouped S)
 as_steady unfailing store = record (as_store_by false store) {
   holds = λ g. of_store (of_one store.holds g.stores) store.holds (steady_of unfailing g.active g.stores);
+  members = λ g. told_or_all (of_store (of_one store.holds g.stores) store.holds (steady_of unfailing g.active g.stores)) (maps_of store.members g.stores);
   folder = λ g. of_store (of_one store.folder g.stores) store.folder (steady_of unfailing g.active g.stores);
   said = λ g. said_steady store.said g.stores (steady_of unfailing g.active g.stores);
 }
@@ -327,6 +338,7 @@ module _ {S : Type 0} (store : StoreWords S) (id : List ℕ) (g h : Grouped S) (
       let asked = once store.asked (turns_once store question.Get g.retries id g.stores h.stores turns) in
       record {
         holds = one_kept (Turned question.Get) store.holds (λ s t r. r.holds) g.stores h.stores turns;
+        members = λ i. told_or_all (one_kept (Turned question.Get) store.holds (λ s t r. r.holds) g.stores h.stores turns i) (maps_kept (Turned question.Get) store.members (λ s t r. r.members) g.stores h.stores turns i);
         folder = one_kept (Turned question.Get) store.folder (λ s t r. r.folder) g.stores h.stores turns;
         place = group_place_kept store id g h same question.Get turns;
         said = said_kept store question.Get (g.retries + 1) id g.stores h.stores turns;
@@ -342,6 +354,7 @@ module _ {S : Type 0} (store : StoreWords S) (id : List ℕ) (g h : Grouped S) (
       let asked = once store.queried (turns_once store question.Has g.retries id g.stores h.stores turns) in
       record {
         holds = one_kept (Turned question.Has) store.holds (λ s t r. r.holds) g.stores h.stores turns;
+        members = λ i. told_or_all (one_kept (Turned question.Has) store.holds (λ s t r. r.holds) g.stores h.stores turns i) (maps_kept (Turned question.Has) store.members (λ s t r. r.members) g.stores h.stores turns i);
         folder = one_kept (Turned question.Has) store.folder (λ s t r. r.folder) g.stores h.stores turns;
         place = group_place_kept store id g h same question.Has turns;
         said = said_kept store question.Has (g.retries + 1) id g.stores h.stores turns;

@@ -13,6 +13,7 @@ module _ {S : Type 0} (store : StoreWords S) (q : Question) (id : List ℕ) wher
   pub asked_none : (n : ℕ) (s : S) → AskedUpTo store q n id s s
   asked_none n s = record {
     holds = refl;
+    members = refl;
     folder = refl;
     place = refl;
     said = λ x. keeps_itself (store.said s) x;
@@ -29,6 +30,7 @@ module _ {S : Type 0} (store : StoreWords S) (q : Question) (id : List ℕ) wher
   pub asked_on : (n k : ℕ) (s t u : S) → k ≡ 1 + n → Rose (store.faults s) (store.faults t) → AskedUpTo store q 1 id s t → AskedUpTo store q n id t u → AskedUpTo store q k id s u
   asked_on n k s t u sum rose first then = record {
     holds = then.holds ∙ first.holds;
+    members = then.members ∙ first.members;
     folder = then.folder ∙ first.folder;
     place = then.place ∙ first.place;
     said = λ x. keeps_on (store.said s) (store.said t) (store.said u) x (first.said x) (then.said x);
@@ -54,6 +56,7 @@ module _ {S : Type 0} (store : StoreWords S) (q : Question) (id : List ℕ) wher
   pub asked_more : (n m : ℕ) (s t : S) → n ≤ m → AskedUpTo store q n id s t → AskedUpTo store q m id s t
   asked_more n m s t more h = record {
     holds = h.holds;
+    members = h.members;
     folder = h.folder;
     place = h.place;
     said = h.said;

@@ -56,6 +56,7 @@ module _ {S : Type 0} (store : StoreWords S) where
   -- the store was asked the question for the id at most n times, and for nothing else
   pub record AskedUpTo (q : Question) (n : ℕ) (id : List ℕ) (s t : S) : Type 0 where
     pub holds : store.holds t ≡ store.holds s
+    pub members : store.members t ≡ store.members s
     pub folder : store.folder t ≡ store.folder s
     pub place : store.place t ≡ store.place s
     pub said : (x : List ℕ) → KeepsOf (store.said s) (store.said t) x

@@ -1,7 +1,8 @@
 -- What contracts see of a group of stores, and what it says as one store. Where its stores never fail, by their type,
 -- the active one stays so and answers alone, and the group tells what that one tells. So it is with the first store
 -- while it is active, where all stores tell what they hold, and those of their type that tell never fail. Else a group
--- of one store tells what that store tells, and several tell nothing together, since any of them may answer.
+-- of one store tells what that store tells, and several tell nothing together, since any of them may answer. Its
+-- members are its stores then, which tell what they hold if all of them do.
 use Rattle.std.specs.Prelude.{◌≡◌, ◌≢◌, ◌⊎◌, ℕ, zero, suc, ◌+◌, ◌*◌, ◌/◌, ◌≤◌, List, [], ◌∷◌, ◌++◌, length, max}
 use Rattle.std.specs.Prelude.{slice_get, is_some}
 use Rattle.std.specs.Prelude.{Bool, true, false, ◌&&◌, IsTrue, IsSome, Option, Some, None, IfSome, refl}
@@ -11,6 +12,7 @@ use Rattle.std.proofs.lemmas.Bool.{false≢true}
 use Rattle.std.specs.List.{AllByRecursion, AllZip}
 use Rattle.chunk_store.specs.Asks.{Ask, Get, Has, Put, Sent}
 use Rattle.chunk_store.specs.Folders.{chunks}
+use Rattle.chunk_store.specs.Members.{maps_of}
 use Rattle.chunk_store.specs.Said.{Said, SaysMap, said_by, says_map}
 use Rattle.chunk_store.specs.declared.store.Store.{Ghosts as StoreWords}
 use Rattle.dsy_base.specs.Counts.{Rose, raised}
@@ -152,11 +154,21 @@ said_steady said stores (Some s) = said s
 
 -- ---- the group as one store
 
+-- the told maps of a group's members: just the one that it tells, or else those of all its stores
+abbrev pub told_or_all : Option (Map (List ℕ)) → Option (List (Map (List ℕ))) → Option (List (Map (List ℕ)))
+told_or_all (Some m) all = Some (m ∷ [])
+told_or_all None all = all
+
 module _ {S : Type 0} where
   -- what the group holds, by whether its stores never fail, and by whether those that tell never do
   abbrev pub group_holds : (sure told : Bool) → (S → Option (Map (List ℕ))) → Grouped S → Option (Map (List ℕ))
   group_holds true told holds g = of_store (Some no_chunks) holds (active_store g)
   group_holds false told holds g = seen_of holds g.stores (steady_store told holds g)
+
+  -- those of the group
+  abbrev pub group_members : (sure told : Bool) → (S → Option (Map (List ℕ))) → (S → Option (List (Map (List ℕ))))
+      → Grouped S → Option (List (Map (List ℕ)))
+  group_members sure told holds members g = told_or_all (group_holds sure told holds g) (maps_of members g.stores)
 
   -- which files its chunks lie in
   abbrev pub group_folder : (sure told : Bool) → (holds folder : S → Option (Map (List ℕ))) → Grouped S
@@ -183,6 +195,7 @@ module _ {S : Type 0} where
 abbrev pub as_store_by : {S : Type 0} → Bool → StoreWords S → StoreWords (Grouped S)
 as_store_by sure store = record {
   holds = group_holds sure store.told_never_fail store.holds;
+  members = group_members sure store.told_never_fail store.holds store.members;
   folder = group_folder sure store.told_never_fail store.holds store.folder;
   said = group_told sure store.told_never_fail store.holds store.said;
   sent = λ g. sent_of store.sent store.folder g.stores;
@@ -243,7 +256,8 @@ always : {X : Type 0} (P : X → Type 0) (o : Option X) → ((x : X) → P x) �
 always P None h = tt
 always P (Some x) h = h x
 
-if_some : {X : Type 0} (P Q : X → Type 0) → ((x : X) → P x → Q x) → (o : Option X) → IfSome o P → IfSome o Q
+-- what follows where there is one
+pub if_some : {X : Type 0} (P Q : X → Type 0) → ((x : X) → P x → Q x) → (o : Option X) → IfSome o P → IfSome o Q
 if_some P Q f None h = tt
 if_some P Q f (Some x) h = f x h
 

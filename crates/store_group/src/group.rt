@@ -147,11 +147,14 @@ impl<S: Store> Group<S> {
 impl<S: Store> Store for Group<S> {
     ghost use Rattle.std.specs.Prelude.{◌&&◌, false};
     ghost use Rattle.std.proofs.Common.{rules};
-    ghost use Rattle.store_group.specs.Groups.{group_faults, group_folder, group_holds, group_place, group_times};
-    ghost use Rattle.store_group.specs.Groups.{group_told, sent_of};
+    ghost use Rattle.store_group.specs.Groups.{group_faults, group_folder, group_holds, group_members, group_place};
+    ghost use Rattle.store_group.specs.Groups.{group_times, group_told, sent_of};
     ghost use Rattle.store_group.specs.Groups.{lies_by, says_by, sure_by, told_by, unasked_by};
+    ghost use Rattle.store_group.specs.Vouched.{alone_by, vouched_by};
 
     ghost holds = { λ g. group_holds S.never_fails S.told_never_fail S.holds g };
+
+    ghost members = { λ g. group_members S.never_fails S.told_never_fail S.holds S.members g };
 
     ghost folder = { λ g. group_folder S.never_fails S.told_never_fail S.holds S.folder g };
 
@@ -182,6 +185,10 @@ impl<S: Store> Store for Group<S> {
     fn has(&mut self, id: &ChunkId) -> Result<bool, IoFault> {
         self.ask_whether(id)
     }
+
+    ghost alone = { λ g. alone_by S.holds S.never_fails S.told_never_fail S.members g };
+
+    ghost vouched = { λ g. vouched_by S.holds S.said S.members S.vouched S.never_fails S.told_never_fail S.says g };
 
     ghost says = { λ g. says_by S.holds S.never_fails S.told_never_fail S.said S.says g };
 

@@ -1,7 +1,9 @@
 use Rattle.std.proofs.Common.{◌≡◌, ◌∙◌, ◌<◌, ◌++◌, ℕ, List, length, Option, Result, OnOk, Ok, Err, refl, inl, ap, sym, subst, arith}
 use Rattle.std.proofs.lemmas.Bool.{true≢false}
 use Rattle.std.proofs.lemmas.List.{with_items_is}
+use Rattle.assembler.proofs.EconomyQuiet.{quiet_fewer}
 use Rattle.assembler.proofs.EconomySettled.{settles_kept, shared_kept}
+use Rattle.assembler.proofs.Entries.{first_among, listed_of}
 use Rattle.assembler.proofs.Others.{takes_entry}
 use Rattle.assembler.proofs.Settled.{all_as, all_kept, asks_as, first_open, fit, inside, keeps_as, last_as, listed, refused_as, same_chunk, takes_as, where_both, where_map}
 use Rattle.assembler.proofs.Stepped.{stretch_none}
@@ -10,14 +12,15 @@ use Rattle.assembler.specs.Stages.{stage, task}
 use Rattle.caibx_codec.specs.Listing.{Listing, count_of, id_of, kind_of, size_of}
 use Rattle.chunk_sources.proofs.Cached.{stocked_wider}
 use Rattle.chunk_sources.specs.AnyCaches.{seen_in}
-use Rattle.chunk_sources.specs.Caches.{OthersAddOnly, CacheLacks, TakesChunk, TakesWants}
+use Rattle.chunk_sources.specs.Caches.{OthersAddOnly, CacheLacks, IsListedAs, TakesChunk, TakesWants}
 use Rattle.chunk_sources.specs.Economy.{source_among, source_over}
 use Rattle.chunk_sources.specs.Losses.{Had}
-use Rattle.chunk_sources.specs.Sources.{KeepsSeeds, SourcesQuiet, Telling, sources, views_of}
-use Rattle.chunk_sources.specs.Wants.{IsAmong, Wanted, want_chunk}
+use Rattle.chunk_sources.specs.Sources.{IsThis, KeepsSeeds, SourcesQuiet, Telling, sources, views_of}
+use Rattle.chunk_sources.specs.Wants.{IsAmong, Task, Wanted, want_chunk}
 use Rattle.chunk_store.specs.declared.id.ChunkId.{ChunkId}
 use Rattle.assembler.specs.declared.fault.Unsettled.{Unsettled}
 use Rattle.std.specs.Vec.{with_items}
+use Rattle.extract_plan.specs.Deal.{AreWants, first_of}
 use Rattle.extract_plan.specs.Places.{PlacesFit}
 use Rattle.extract_plan.specs.declared.seed.Seed.{Seed}
 use Rattle.dsy_base.specs.Maps.{Map}
@@ -230,15 +233,15 @@ returns-clause-ends g c =
 
 -- what holds for the seeds as they were lent, and for what was sought, holds for the kit's and for the want
 module _ (g : Over) (c : After-settle_open g) (cached maps : List (Map (List ℕ))) where
-  abbrev Quietly : List (Seed g.row.V.Denot) → List (Seed g.row.V.Denot) → Type 0
-  Quietly xs ys = SourcesQuiet g.S.Store g.V.View (sources (g.E.Ledger.faults c.args.work.now.ledger) xs (see g c.args.work.now.cache) c.args.work.now.kit.chain)
+  abbrev Quietly : (List ℕ → ℕ → Type 0) → List (Seed g.row.V.Denot) → List (Seed g.row.V.Denot) → Type 0
+  Quietly A xs ys = SourcesQuiet g.S.Store g.V.View (kind_of g.E.Ledger.run.listing) A (sources (g.E.Ledger.faults c.args.work.now.ledger) xs (see g c.args.work.now.cache) c.args.work.now.kit.chain)
       (sources (g.E.Ledger.faults c.settle_open.new.ledger) ys (see g c.settle_open.new.cache) c.settle_open.new.chain) cached maps
 
-  quiet_lent : Quietly c.args.work.now.kit.seeds.items (with_items c.args.work.now.kit.seeds c.settle_open.new.seeds).items → Quietly c.deref_mut.result.now c.settle_open.new.seeds
-  quiet_lent quiet =
+  quiet_lent : (A : List ℕ → ℕ → Type 0) → Quietly A c.args.work.now.kit.seeds.items (with_items c.args.work.now.kit.seeds c.settle_open.new.seeds).items → Quietly A c.deref_mut.result.now c.settle_open.new.seeds
+  quiet_lent A quiet =
       let kept = with_items_is c.args.work.now.kit.seeds c.settle_open.new.seeds (omega (arith, c.settle_open.auto.seeds, c.deref_mut.ensures.len)) in
-      subst (λ (xs : List (Seed g.row.V.Denot)). Quietly xs c.settle_open.new.seeds) (sym c.deref_mut.ensures.value)
-      (subst (λ (ys : List (Seed g.row.V.Denot)). Quietly c.args.work.now.kit.seeds.items ys) kept quiet)
+      subst (λ (xs : List (Seed g.row.V.Denot)). Quietly A xs c.settle_open.new.seeds) (sym c.deref_mut.ensures.value)
+      (subst (λ (ys : List (Seed g.row.V.Denot)). Quietly A c.args.work.now.kit.seeds.items ys) kept quiet)
 
   abbrev Source : Wanted → List (Seed g.row.V.Denot) → Fate
   Source q xs = source_among (settled (g.E.Ledger.fates c.args.work.now.ledger)) q (views_of g.V.View xs) cached maps
@@ -246,6 +249,13 @@ module _ (g : Over) (c : After-settle_open g) (cached maps : List (Map (List ℕ
   for_want : (P : Fate → Type 0) (q now : Wanted) → q ≡ now → P (Source q c.deref_mut.result.now) → P (Source now c.args.work.now.kit.seeds.items)
   for_want P q now same has =
       subst (λ (p : Wanted). P (Source p c.args.work.now.kit.seeds.items)) same (subst (λ (xs : List (Seed g.row.V.Denot)). P (Source q xs)) c.deref_mut.ensures.value has)
+
+-- the chunk of a want is listed
+chunk_listed : (t : Task) (w : ℕ) → AreWants t.listing t.plan.wants t.plan.want_of → w < t.plan.wants → (q : Wanted) → q ≡ want_chunk t w
+    → (id : List ℕ) (size : ℕ) → IsThis q.id q.size id size → IsListedAs t.listing id size
+chunk_listed t w wants less q same id size is =
+    let first = first_of t.plan w in
+    (first, listed_of t.listing t.plan w first wants (first_among t.listing t.plan w wants less), sym (ap (λ (x : Wanted). x.id) same) ∙ sym is.0, sym (ap (λ (x : Wanted). x.size) same) ∙ sym is.1)
 
 pub returns-clause-exactly : goal.returns-clause-exactly
 returns-clause-exactly g c = λ alone cached maps quiet.
@@ -255,7 +265,8 @@ returns-clause-exactly g c = λ alone cached maps quiet.
     (named g at.After-entry) c.entry.result.size (sized g at.After-entry) c.places-places.result.now c.places-places.ensures in
     for_want g at.After-settle_open cached maps
     (λ s. SettlesBy s (count_of t.listing) (g.E.Ledger.fates c.args.work.now.ledger) (g.E.Ledger.fates c.settle_open.new.ledger) c.args.work.now.kit.chain c.settle_open.new.chain c.settle_open.result)
-    _ (want_chunk t c.args.want) same (c.settle_open.ensures.exactly alone cached maps (quiet_lent g at.After-settle_open cached maps quiet))
+    _ (want_chunk t c.args.want) same (c.settle_open.ensures.exactly alone cached maps (quiet_lent g at.After-settle_open cached maps (IsThis c.id-id.result.0 c.entry.result.size) (quiet_fewer g.S.Store g.V.View _ _ _ cached maps
+    (chunk_listed t c.args.want c.requires.ready.wants c.requires.want _ same) quiet)))
 
 pub returns-clause-shared : goal.returns-clause-shared
 returns-clause-shared g c = λ cached maps only quiet.
@@ -268,4 +279,5 @@ returns-clause-shared g c = λ cached maps only quiet.
     _ (want_chunk t c.args.want) same
     (c.settle_open.ensures.shared cached maps
     (subst (λ (q : Wanted). OthersAddOnly q.kind q.id q.size (see g c.args.work.now.cache) cached maps) (sym same) only)
-    (quiet_lent g at.After-settle_open cached maps quiet))
+    (quiet_lent g at.After-settle_open cached maps (IsThis c.id-id.result.0 c.entry.result.size) (quiet_fewer g.S.Store g.V.View _ _ _ cached maps
+    (chunk_listed t c.args.want c.requires.ready.wants c.requires.want _ same) quiet)))

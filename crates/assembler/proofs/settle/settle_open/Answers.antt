@@ -1,5 +1,5 @@
 use Rattle.std.proofs.Common.{◌≡◌, ◌⊎◌, ◌∙◌, ◌++◌, ℕ, List, length, slice_index, Option, Ok, Err, refl, ap, sym, subst, arith}
-use Rattle.assembler.proofs.EconomyQuiet.{quiet_before}
+use Rattle.assembler.proofs.EconomyQuiet.{quiet_before, quiet_fewer}
 use Rattle.assembler.proofs.Filled.{told_none, told_since, torn_since}
 use Rattle.assembler.proofs.Settled.{asks_still}
 use Rattle.assembler.proofs.Tallies.{TalliedAs}
@@ -14,7 +14,7 @@ use Rattle.chunk_sources.specs.AnyCaches.{seen_in}
 use Rattle.chunk_sources.specs.Caches.{OthersAddOnly, CacheLacks, IfShared, TakesChunk}
 use Rattle.chunk_sources.specs.Economy.{AnsweredAs, ObtainedBy, as_upstream, source_among}
 use Rattle.chunk_sources.specs.Losses.{AskedLast, Had}
-use Rattle.chunk_sources.specs.Sources.{sources, views_of}
+use Rattle.chunk_sources.specs.Sources.{IsThis, sources, views_of}
 use Rattle.chunk_sources.specs.Wants.{Wanted, sought_chunk}
 use Rattle.chunk_sources.specs.declared.obtain.Sought.{Sought}
 use Rattle.chunk_store.specs.declared.id.DigestKind.{DigestKind}
@@ -65,7 +65,7 @@ returns-in-Ok-put-clause-exactly g c = λ alone cached maps quiet.
     let q = sought_chunk (kind_of e.run.listing) c.args.opened.now.sought c.args.opened.now.size in
     let sooner = quiet_before g.S.Store g.V.View (e.faults c.args.ledger.now) (e.faults c.obtain.new.ledger) (e.faults c.put.new.ledger)
     c.args.seeds.now c.obtain.new.seeds (see g c.args.cache.now) (see g c.obtain.new.cache) c.args.chain.now c.obtain.new.chain cached maps
-    c.in-Ok.ensures.faults c.in-Ok-put.ensures.faults quiet in
+    c.in-Ok.ensures.faults c.in-Ok-put.ensures.faults (quiet_fewer g.S.Store g.V.View (IsThis c.args.opened.now.sought.id.0 (length c.split_at_mut-chunk.result.0.now)) _ _ cached maps (λ q k is. (is.0, is.1 ∙ c.split_at_mut-chunk.ensures.front_len)) quiet) in
     settles_got (source_among (settled m) q (views_of g.V.View c.args.seeds.now) cached maps) (count_of e.run.listing) m (e.fates c.put.new.ledger) c.args.chain.now c.obtain.new.chain
     c.in-Ok.origin (as_sought (kind_of e.run.listing) c.args.opened.now.sought (length c.split_at_mut-chunk.result.0.now) c.args.opened.now.size c.split_at_mut-chunk.ensures.front_len
     (λ q. ObtainedBy (source_among (settled m) q (views_of g.V.View c.args.seeds.now) cached maps) c.args.chain.now c.obtain.new.chain (Ok c.in-Ok.origin))
@@ -84,7 +84,7 @@ returns-in-Ok-put-clause-shared g c = λ cached maps only quiet.
     let sized = c.split_at_mut-chunk.ensures.front_len in
     let sooner = quiet_before g.S.Store g.V.View (e.faults c.args.ledger.now) (e.faults c.obtain.new.ledger) (e.faults c.put.new.ledger)
     c.args.seeds.now c.obtain.new.seeds (see g c.args.cache.now) (see g c.obtain.new.cache) c.args.chain.now c.obtain.new.chain cached maps
-    c.in-Ok.ensures.faults c.in-Ok-put.ensures.faults quiet in
+    c.in-Ok.ensures.faults c.in-Ok-put.ensures.faults (quiet_fewer g.S.Store g.V.View (IsThis c.args.opened.now.sought.id.0 (length c.split_at_mut-chunk.result.0.now)) _ _ cached maps (λ q k is. (is.0, is.1 ∙ c.split_at_mut-chunk.ensures.front_len)) quiet) in
     shared_got (source_among (settled m) q (views_of g.V.View c.args.seeds.now) cached maps) (count_of e.run.listing) m (e.fates c.put.new.ledger) c.args.chain.now c.obtain.new.chain
     c.in-Ok.origin (as_sought kind c.args.opened.now.sought n c.args.opened.now.size sized
     (λ q. AnsweredAs as_upstream (source_among (settled m) q (views_of g.V.View c.args.seeds.now) cached maps) (Ok c.in-Ok.origin))
@@ -168,7 +168,7 @@ returns-in-Err-clause-exactly g c = λ alone cached maps quiet.
     (settles_lost source (count_of e.run.listing) m c.args.chain.now c.obtain.new.chain lost
     (as_sought (kind_of e.run.listing) c.args.opened.now.sought (length c.split_at_mut-chunk.result.0.now) c.args.opened.now.size c.split_at_mut-chunk.ensures.front_len
     (λ q. ObtainedBy (source_among (settled m) q (views_of g.V.View c.args.seeds.now) cached maps) c.args.chain.now c.obtain.new.chain (Err c.in-Err.refused))
-    (c.in-Err.ensures.exactly alone cached maps quiet)))
+    (c.in-Err.ensures.exactly alone cached maps (quiet_fewer g.S.Store g.V.View (IsThis c.args.opened.now.sought.id.0 (length c.split_at_mut-chunk.result.0.now)) _ _ cached maps (λ q k is. (is.0, is.1 ∙ c.split_at_mut-chunk.ensures.front_len)) quiet))))
 
 pub returns-in-Err-clause-shared : goal.returns-in-Err-clause-shared
 returns-in-Err-clause-shared g c = λ cached maps only quiet.
@@ -184,7 +184,7 @@ returns-in-Err-clause-shared g c = λ cached maps only quiet.
     (shared_lost source (count_of e.run.listing) m lost
     (as_sought kind c.args.opened.now.sought n c.args.opened.now.size sized
     (λ q. AnsweredAs as_upstream (source_among (settled m) q (views_of g.V.View c.args.seeds.now) cached maps) (Err c.in-Err.refused))
-    (c.in-Err.ensures.shared cached maps (subst (λ (k : ℕ). OthersAddOnly kind c.args.opened.now.sought.id.0 k (see g c.args.cache.now) cached maps) (sym sized) only) quiet)))
+    (c.in-Err.ensures.shared cached maps (subst (λ (k : ℕ). OthersAddOnly kind c.args.opened.now.sought.id.0 k (see g c.args.cache.now) cached maps) (sym sized) only) (quiet_fewer g.S.Store g.V.View (IsThis c.args.opened.now.sought.id.0 (length c.split_at_mut-chunk.result.0.now)) _ _ cached maps (λ q k is. (is.0, is.1 ∙ c.split_at_mut-chunk.ensures.front_len)) quiet))))
 
 pub returns-in-Err-clause-asks : goal.returns-in-Err-clause-asks
 returns-in-Err-clause-asks g c =

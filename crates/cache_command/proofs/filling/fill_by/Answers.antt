@@ -21,6 +21,12 @@ fill-filled-requires-clause-alike g c κs within =
     let now = c.remake-filling.result in
     (remade_alike _ old.cached.chain now.cached.chain old.further.items now.further.items c.remake-filling.ensures.stores c.remake-filling.ensures.further c.requires.alike).held
 
+pub fill-filled-requires-clause-members : goal.fill-filled-requires-clause-members
+fill-filled-requires-clause-members g c κs within =
+    let old = c.args.filling in
+    let now = c.remake-filling.result in
+    (remade_alike _ old.cached.chain now.cached.chain old.further.items now.further.items c.remake-filling.ensures.stores c.remake-filling.ensures.further c.requires.alike).members
+
 pub returns-clause-filled : goal.returns-clause-filled
 returns-clause-filled g c =
     let W = g.W.Look in
@@ -37,7 +43,7 @@ returns-clause-filled g c =
     let r = c.fill-filled.result.result in
     let many : length more ≡ length further = length_all_zip (FetchesAhead store l) more further over.further in
     let alike = (remade_alike store first.cached.chain old.chain first.further.items more made.stores made.further c.requires.alike).held in
-    let filled = index_filled store (g.met.S.Store g.world.𝓛 g.world.𝓜 g.world.𝓡 ((λ s y. y), (λ y. y), (λ y. y), (λ y. y))).lies l (shelf_of W.files W.place W.faults old.shelf) (shelf_of W.files W.place W.faults new.shelf) old.chain new.chain more further worker
+    let filled = index_filled store (g.met.S.Store g.world.𝓛 g.world.𝓜 g.world.𝓡 ((λ s y. y), (λ y. y), (λ y. y), (λ y. y))).lies (g.met.S.Store g.world.𝓛 g.world.𝓜 g.world.𝓡 ((λ s y. y), (λ y. y), (λ y. y), (λ y. y))).alone l (shelf_of W.files W.place W.faults old.shelf) (shelf_of W.files W.place W.faults new.shelf) old.chain new.chain more further worker
     over.stores many alike r over.order over.stocks over.holds over.exactly in
     let same : each_stores (old.chain ∷ more) ≡ each_stores (first.cached.chain ∷ first.further.items) = cc (made.stores, made.further) in
     let by_stores = subst (λ xs. IndexFilled (of_calls store xs (each_stores (new.chain ∷ further)) worker (W.faults old.shelf.folder) (W.faults new.shelf.folder)) l (W.files old.shelf.folder) (W.files new.shelf.folder) r) same filled in
@@ -86,4 +92,4 @@ returns-clause-alike g c =
     let made = c.remake-filling.ensures in
     let over = c.fill-filled.ensures in
     let alike = remade_alike _ first.cached.chain old.cached.chain first.further.items old.further.items made.stores made.further c.requires.alike in
-    alike_on _ c.args.index.now old.cached.chain c.fill-filled.new.cached.chain old.further.items c.fill-filled.new.further.items over.stores.held over.further alike
+    alike_on _ c.args.index.now old.cached.chain c.fill-filled.new.cached.chain old.further.items c.fill-filled.new.further.items over.stores.held over.stores.members over.further alike

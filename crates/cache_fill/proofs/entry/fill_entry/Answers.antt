@@ -62,7 +62,7 @@ returns-in-Failed-clause-err g c =
     c.args.cached.now c.obtain.new.self out w (Ok got) in
     let call = call_failed F.files F.place F.faults S l i entry.id is_id
     c.args.cached.now c.obtain.new.self out got
-    (subst Given wanted c.in-Ok.ensures.ok) (λ x m. c.put_changes_one_chunk.ensures.kept entry.id.0 x m) c.in-Failed.is (subst Had wanted c.in-Ok.ensures.ends) in
+    (subst Given wanted c.in-Ok.ensures.ok) (λ s. g.met.S.Store.alone s) (λ x m. c.put_changes_one_chunk.ensures.kept entry.id.0 x m) c.in-Failed.is (subst Had wanted c.in-Ok.ensures.ends) in
     call.0
 
 pub returns-in-Failed-clause-kept : goal.returns-in-Failed-clause-kept
@@ -81,7 +81,7 @@ returns-in-Failed-clause-kept g c =
     c.args.cached.now c.obtain.new.self out w (Ok got) in
     let call = call_failed F.files F.place F.faults S l i entry.id is_id
     c.args.cached.now c.obtain.new.self out got
-    (subst Given wanted c.in-Ok.ensures.ok) (λ x m. c.put_changes_one_chunk.ensures.kept entry.id.0 x m) c.in-Failed.is (subst Had wanted c.in-Ok.ensures.ends) in
+    (subst Given wanted c.in-Ok.ensures.ok) (λ s. g.met.S.Store.alone s) (λ x m. c.put_changes_one_chunk.ensures.kept entry.id.0 x m) c.in-Failed.is (subst Had wanted c.in-Ok.ensures.ends) in
     none_added _ (shelf_of F.files F.place F.faults c.args.cached.now.shelf) (shelf_of F.files F.place F.faults c.obtain.new.self.shelf) c.obtain.ensures.stocks call.1
 
 pub returns-in-Memory-clause-err : goal.returns-in-Memory-clause-err
@@ -100,7 +100,7 @@ returns-in-Memory-clause-err g c =
     c.args.cached.now c.obtain.new.self out w (Ok got) in
     let call = call_lacked F.files F.place F.faults S l i entry.id is_id
     c.args.cached.now c.obtain.new.self out got
-    (subst Given wanted c.in-Ok.ensures.ok) (λ x m. c.put_changes_one_chunk.ensures.kept entry.id.0 x m) c.in-Memory.is (subst Had wanted c.in-Ok.ensures.ends) in
+    (subst Given wanted c.in-Ok.ensures.ok) (λ s. g.met.S.Store.alone s) (λ x m. c.put_changes_one_chunk.ensures.kept entry.id.0 x m) c.in-Memory.is (subst Had wanted c.in-Ok.ensures.ends) in
     call.0
 
 pub returns-in-Memory-clause-kept : goal.returns-in-Memory-clause-kept
@@ -119,7 +119,7 @@ returns-in-Memory-clause-kept g c =
     c.args.cached.now c.obtain.new.self out w (Ok got) in
     let call = call_lacked F.files F.place F.faults S l i entry.id is_id
     c.args.cached.now c.obtain.new.self out got
-    (subst Given wanted c.in-Ok.ensures.ok) (λ x m. c.put_changes_one_chunk.ensures.kept entry.id.0 x m) c.in-Memory.is (subst Had wanted c.in-Ok.ensures.ends) in
+    (subst Given wanted c.in-Ok.ensures.ok) (λ s. g.met.S.Store.alone s) (λ x m. c.put_changes_one_chunk.ensures.kept entry.id.0 x m) c.in-Memory.is (subst Had wanted c.in-Ok.ensures.ends) in
     none_added _ (shelf_of F.files F.place F.faults c.args.cached.now.shelf) (shelf_of F.files F.place F.faults c.obtain.new.self.shelf) c.obtain.ensures.stocks call.1
 
 pub returns-in-Err-clause-kept : goal.returns-in-Err-clause-kept

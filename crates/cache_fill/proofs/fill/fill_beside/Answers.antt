@@ -69,6 +69,11 @@ fill_entries-filled-requires-clause-alike g c = λ lifetimes bounds.
     let P : Chained g.row.S.Denot → Type 0 = λ x. map g.S.Store.holds x.stores ≡ map g.S.Store.holds c.args.cached.now.chain.stores in
     subst (All (λ r. P r.chain)) (sym c.deref_mut-2.ensures.value) (hired_all P (λ r. r.chain) c.args.further.now.items c.hire.new.readers.items c.hire.ensures.kept c.requires.alike)
 
+pub fill_entries-filled-requires-clause-members : goal.fill_entries-filled-requires-clause-members
+fill_entries-filled-requires-clause-members g c = λ lifetimes bounds.
+    let P : Chained g.row.S.Denot → Type 0 = λ x. map g.S.Store.members x.stores ≡ map g.S.Store.members c.args.cached.now.chain.stores in
+    subst (All (λ r. P r.chain)) (sym c.deref_mut-2.ensures.value) (hired_all P (λ r. r.chain) c.args.further.now.items c.hire.new.readers.items c.hire.ensures.kept c.requires.members)
+
 pub returns-clause-answers : goal.returns-clause-answers
 returns-clause-answers g c =
     let S = g.S.Store in

@@ -15,11 +15,11 @@ use Rattle.cache_fill.proofs.fill.fill_entries.Goals as goal
 
 pub take_by_rounds-taken-requires-clause-trusted : goal.take_by_rounds-taken-requires-clause-trusted
 take_by_rounds-taken-requires-clause-trusted g c κs within = λ k d lt a right.
-    let holds = g.S.Store.holds in
+    let members = g.S.Store.members in
     let index = c.deal.ensures.index ∙ c.new-filling.ensures.index in
     let first = c.deal.ensures.first ∙ c.new-filling.ensures.first in
-    let same = ap (λ (x : Chained g.row.S.Denot). map holds x.stores) c.requires.chain ∙ sym (ap (λ (b : Behind g.row.F.Denot g.row.S.Denot). map holds b.chain.stores) first) in
-    rooms_back holds _ _ _ _ ((c.requires.hired k d lt).index ∙ sym index) (c.requires.alike k d lt ∙ same) a right
+    let same = ap (λ (x : Chained g.row.S.Denot). map members x.stores) c.requires.chain ∙ sym (ap (λ (b : Behind g.row.F.Denot g.row.S.Denot). map members b.chain.stores) first) in
+    rooms_back members _ _ _ _ ((c.requires.hired k d lt).index ∙ sym index) (c.requires.members k d lt ∙ same) a right
 
 pub returns-in_default-clause-answers : goal.returns-in_default-clause-answers
 returns-in_default-clause-answers g c =
@@ -35,7 +35,7 @@ returns-in_default-clause-answers g c =
     let cached_is : w.cached.now ≡ c.cached-1.given.0 = sym (c.cached-1.given.1 (sym (on.cached ∙ made.same)) ∙ c.end.ensures.kept) in
     let alike = mapped_all (λ (x : Chained g.row.S.Denot). map S.holds x.stores ≡ map S.holds first.chain.stores) (λ r. r.chain) rs (λ k d lt. c.requires.alike k d lt ∙ ap (λ (x : Chained g.row.S.Denot). map S.holds x.stores) c.requires.chain) in
     ends_so g.F.Look S g.F.Folder.pairs g.F.Folder.stores v w l first _ made.index made.first cached_is (map (λ r. r.chain) rs) (map (λ r. r.chain) rs) alike refl
-    c.take_alone-taken.result on done.all rs (λ worker fault tells. absurd (lost_none l c.args.dealt.now.owners.items rs c.requires.hired w.at worker fault tells)) c.ended.result.worker c.ended.result.result c.ended.ensures
+    (λ s. (g.met.S.Store g.world.𝓛 g.world.𝓜 g.world.𝓡 ((λ s y. y), (λ y. y), (λ y. y), (λ y. y))).alone s) c.take_alone-taken.result on done.all rs (λ worker fault tells. absurd (lost_none l c.args.dealt.now.owners.items rs c.requires.hired w.at worker fault tells)) c.ended.result.worker c.ended.result.result c.ended.ensures
 
 pub returns-in_default-clause-dealt : goal.returns-in_default-clause-dealt
 returns-in_default-clause-dealt g c =
@@ -79,7 +79,7 @@ returns-clause-answers g c =
     let alike = mapped_all (λ (x : Chained g.row.S.Denot). map S.holds x.stores ≡ map S.holds first.chain.stores) (λ r. r.chain) rs (λ k d lt. c.requires.alike k d lt ∙ ap (λ (x : Chained g.row.S.Denot). map S.holds x.stores) c.requires.chain) in
     ends_so g.F.Look S g.F.Folder.pairs g.F.Folder.stores v w l first _ (dealt.index ∙ made.index) (dealt.first ∙ made.first) cached_is (map (λ r. r.chain) rs) (map (λ r. r.chain) ss) alike
     (length-map rs (λ r. r.chain) ∙ many ∙ sym (length-map ss (λ r. r.chain)))
-    c.take_by_rounds-taken.result on done.all ss
+    (λ s. (g.met.S.Store g.world.𝓛 g.world.𝓜 g.world.𝓡 ((λ s y. y), (λ y. y), (λ y. y), (λ y. y))).alone s) c.take_by_rounds-taken.result on done.all ss
     (λ worker fault tells.
     (let lost = reader_lost S l owners rs ss c.requires.hired c.requires.numbered went w.at worker fault tells in
     (tells.place, lost.0, omega (arith, tells.inside, length-map ss (λ r. r.chain)), lost.1)))

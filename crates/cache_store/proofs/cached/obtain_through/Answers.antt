@@ -34,6 +34,7 @@ returns-clause-ends g c =
       asks = c.obtain.ensures.asks;
       found = subst G c.find_first.auto.out c.in_ok-n-2.ensures.found;
       had = c.in_ok-n-2.ensures.had;
+      lacks = tt;
       absent = tt;
       first = λ maps told. tt;
       exactly = λ maps told quiet. subst (λ n. O n maps) c.find_first.auto.out (c.in_ok-n-2.ensures.exactly maps told quiet);
@@ -55,4 +56,4 @@ returns-clause-stocks g c =
     let W : ℕ → Type 0 = λ n. IsWanted (query_of c.args.chain.now.kind c.args.id.now c.args.size n) b in
     let given = c.in_ok-n-2.ensures.ok in
     stocks_on _ old mid new (stocks_looked _ old mid c.find_first.ensures.kept) (stocks_weaker (λ q x. (q ≡ c.args.id.now.0) × (x ≡ c.split_at.result.0.now)) _
-    (added_wanted g.S.Store.holds _ c.args.id.now.0 c.split_at.result.0.now b c.args.chain.now.stores c.split_at.ensures.front (subst W c.find_first.auto.out given.wanted) c.in_ok-n-2.ensures.had) mid new c.keep-kept.ensures.stocks)
+    (added_wanted g.S.Store.members _ c.args.id.now.0 c.split_at.result.0.now b c.args.chain.now.stores c.split_at.ensures.front (subst W c.find_first.auto.out given.wanted) c.in_ok-n-2.ensures.had) mid new c.keep-kept.ensures.stocks)

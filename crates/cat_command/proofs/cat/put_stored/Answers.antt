@@ -7,7 +7,7 @@ use Rattle.command_groups.proofs.Asked.{groups_asked}
 use Rattle.command_groups.proofs.Seen.{first_active, groups_hold, groups_tell}
 use Rattle.command_groups.proofs.Stand.{active_inside, folders_still, found_after, fresh_first, fresh_tries, groups_many, groups_stand_still, groups_try_still, sizes_stand}
 use Rattle.command_groups.proofs.Standing.{all_groups_stand}
-use Rattle.command_groups.proofs.Words.{group_words}
+use Rattle.command_groups.proofs.Words.{group_words, groups_alone}
 use Rattle.command_groups.specs.Groups.{stores_of}
 use Rattle.command_groups.specs.Numbers.{answer_of_stores}
 use Rattle.command_groups.specs.Opened.{files_in, locations_in, told_files}
@@ -91,7 +91,7 @@ returns g c =
     let active : All (λ (h : Grouped (AnyStore g.row.F-Look.Denot g.row.D.Denot g.row.D-Link.Denot)). h.active < length h.stores) after = λ k d lt. (closed k d lt).active in
     let inside = active_inside place after groups located active in
     let chain : Chained (Grouped (AnyStore g.row.F-Look.Denot g.row.D.Denot g.row.D-Link.Denot)) = record { stores = before; asks = 0; kind = c.kind.result } in
-    let range = ends_between sure words (locations_in place) files e u v groups l c.rules.ensures from n chain c.put_from-chain.result.0 c.kind.ensures (groups_hold sure look.files before) (groups_tell sure look.files u.disk.folders before groups first found) located stand
+    let range = ends_between sure words (locations_in place) files e u v groups l c.rules.ensures from n chain c.put_from-chain.result.0 c.kind.ensures (groups_hold sure look.files before) (groups_tell sure look.files u.disk.folders before groups first found) located stand (groups_alone look state)
     (map (λ g. g.active) after) inside (λ fs told. first_active sure look.files after fs (kept.files ∙ told) active) c.put_from-chain.result.1 ends in
     let asked = groups_asked place state look.files e (asked_times l from n) (λ id. 0) (IsCoveredGet l from n) before after groups u.dial.ended v.dial.ended opened.unused tries stands
     (each_weaker (λ a b. AsksWants (missed kept_chunks [] (wants_of l from n)) (words.asked a) (words.asked b)) (λ a b. (q : List ℕ) → words.asked b q ≤ words.asked a q + asked_times l from n q) (λ a b h. h.most) before after asks)

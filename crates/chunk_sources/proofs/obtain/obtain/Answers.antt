@@ -10,7 +10,7 @@ use Rattle.chunk_sources.specs.Caches.{OthersAddOnly, CacheFailed, CacheLacks, S
 use Rattle.chunk_sources.specs.AnyCaches.{seen_in}
 use Rattle.chunk_sources.specs.Economy.{AnsweredAs, ObtainedBy, as_upstream, source_among, source_behind}
 use Rattle.chunk_sources.specs.Losses.{RefusedBy, chunk_of}
-use Rattle.chunk_sources.specs.Sources.{counts_of, views_of}
+use Rattle.chunk_sources.specs.Sources.{Agree, counts_of, views_of}
 use Rattle.chunk_sources.specs.Wants.{Wanted, sought_chunk}
 use Rattle.chunk_sources.specs.declared.obtain.Sought.{Sought}
 use Rattle.chunk_store.specs.Asks.{Get}
@@ -122,7 +122,7 @@ returns-clause-exactly g c = λ alone cached maps quiet.
     (c.from_seeds.ensures.absent c.if-from_seeds.false))
     c.from_upstream.result
     (as_sought g c (λ k n. ObtainedBy (source_behind k q.id.0 n cached maps) c.args.chain.now c.from_upstream.new.chain c.from_upstream.result)
-    (c.from_upstream.ensures.exactly alone cached maps quiet.told_cache quiet.cache quiet.told quiet.stores))
+    (c.from_upstream.ensures.exactly alone cached maps quiet.told_cache quiet.cache quiet.told (subst (λ (k : DigestKind). Agree g.S.Store k q.id.0 (length c.from_seeds.new.chunk) c.args.chain.now.stores) (sym c.requires.kind) (quiet.agree q.id.0 (length c.from_seeds.new.chunk) (refl, omega (arith, c.from_seeds.auto.chunk, c.copy.auto.chunk)))) quiet.stores))
 
 pub returns-clause-stocked : goal.returns-clause-stocked
 returns-clause-stocked g c =
@@ -169,4 +169,4 @@ returns-clause-shared g c = λ cached maps only quiet.
     (as_sought g c (λ k n. AnsweredAs as_upstream (source_behind k q.id.0 n cached maps) c.from_upstream.result)
     (c.from_upstream.ensures.shared cached maps
     (sized_as (λ k n. OthersAddOnly k q.id.0 n (see g c.args.cache.now) cached maps) (kind_of g.E.Ledger.run.listing) was (length c.args.chunk.now) (length c.from_seeds.new.chunk) (sym same) sized only)
-    quiet.told_cache quiet.cache quiet.told quiet.stores))
+    quiet.told_cache quiet.cache quiet.told (subst (λ (k : DigestKind). Agree g.S.Store k q.id.0 (length c.from_seeds.new.chunk) c.args.chain.now.stores) (sym c.requires.kind) (quiet.agree q.id.0 (length c.from_seeds.new.chunk) (refl, omega (arith, c.from_seeds.auto.chunk, c.copy.auto.chunk)))) quiet.stores))

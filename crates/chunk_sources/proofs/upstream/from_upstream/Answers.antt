@@ -23,7 +23,7 @@ see g = seen_in g.C.Cache
 -- ---- no cache
 
 pub returns-in_err-obtain-clause-exactly : goal.returns-in_err-obtain-clause-exactly
-returns-in_err-obtain-clause-exactly g c = λ alone cached maps told quiet held still.
+returns-in_err-obtain-clause-exactly g c = λ alone cached maps told quiet held agree still.
     let kind = c.args.chain.now.kind in
     let id = c.args.id.now in
     let size : ℕ = length c.args.chunk.now in
@@ -33,9 +33,9 @@ returns-in_err-obtain-clause-exactly g c = λ alone cached maps told quiet held 
     let p = err_from_is_err_and c.from_residual.result c.from_residual.ensures.1 in
     rw (p.1, p.2) (by_none kind id.0 size cached maps c.args.chain.now c.obtain.new.self
     (none_given kind id.0 size cached (ap (λ q. cached_in (see g q)) (sym c.in_default.is) ∙ told)) e.asks.calls r
-    (lacked_memory kind id size maps r
+    (lacked_memory kind id size (map g.S.Store.members c.args.chain.now.stores) maps held agree r
     (λ s is. quiet_never (slice_index (stores c.args.chain.now.stores) s) (slice_index (stores c.obtain.new.self.stores) s) (still s) (e.cause s (ap Err is)))
-    (e.first maps held)))
+    e.lacks))
 
 pub returns-in_default-clause-had : goal.returns-in_default-clause-had
 returns-in_default-clause-had g c = λ cached maps told held.
@@ -47,7 +47,7 @@ returns-in_default-clause-had g c = λ cached maps told held.
     (holds_gives kind id size maps (take c.in_ok-obtain.field-0 c.obtain.new.out) e.ok.wanted (e.had maps held))
 
 pub returns-in_default-clause-exactly : goal.returns-in_default-clause-exactly
-returns-in_default-clause-exactly g c = λ alone cached maps told quiet held still.
+returns-in_default-clause-exactly g c = λ alone cached maps told quiet held agree still.
     let kind = c.args.chain.now.kind in
     let id = c.args.id.now in
     let size : ℕ = length c.args.chunk.now in
@@ -57,7 +57,7 @@ returns-in_default-clause-exactly g c = λ alone cached maps told quiet held sti
     (holds_gives kind id size maps (take c.in_ok-obtain.field-0 c.obtain.new.out) e.ok.wanted (e.had maps held))
 
 pub returns-in_err-obtain-clause-shared : goal.returns-in_err-obtain-clause-shared
-returns-in_err-obtain-clause-shared g c = λ cached maps only told quiet held still.
+returns-in_err-obtain-clause-shared g c = λ cached maps only told quiet held agree still.
     let kind = c.args.chain.now.kind in
     let id = c.args.id.now in
     let size : ℕ = length c.args.chunk.now in
@@ -67,12 +67,12 @@ returns-in_err-obtain-clause-shared g c = λ cached maps only told quiet held st
     let p = err_from_is_err_and c.from_residual.result c.from_residual.ensures.1 in
     rw (p.1, p.2) ((by_none kind id.0 size cached maps c.args.chain.now c.obtain.new.self
     (none_given kind id.0 size cached (ap (λ q. cached_in (see g q)) (sym c.in_default.is) ∙ told)) e.asks.calls r
-    (lacked_memory kind id size maps r
+    (lacked_memory kind id size (map g.S.Store.members c.args.chain.now.stores) maps held agree r
     (λ s is. quiet_never (slice_index (stores c.args.chain.now.stores) s) (slice_index (stores c.obtain.new.self.stores) s) (still s) (e.cause s (ap Err is)))
-    (e.first maps held))).1)
+    e.lacks)).1)
 
 pub returns-in_default-clause-shared : goal.returns-in_default-clause-shared
-returns-in_default-clause-shared g c = λ cached maps only told quiet held still.
+returns-in_default-clause-shared g c = λ cached maps only told quiet held agree still.
     let kind = c.args.chain.now.kind in
     let id = c.args.id.now in
     let size : ℕ = length c.args.chunk.now in
@@ -108,9 +108,9 @@ returns-clause-missed g c =
     → CacheLacks c.args.chain.now.kind c.args.id.now.0 (length c.args.chunk.now) (see g q) (Some (g.C.Cache.shelf c.from_cache.new.cache)))) (sym c.in-Some.is) c.from_cache.ensures.missed
 
 pub returns-clause-shared : goal.returns-clause-shared
-returns-clause-shared g c = λ cached maps only told quiet held still.
+returns-clause-shared g c = λ cached maps only told quiet held agree still.
     let kind = c.args.chain.now.kind in
     let size : ℕ = length c.args.chunk.now in
     c.from_cache.ensures.shared cached maps (subst (λ (q : Option g.row.C.Denot). OthersAddOnly kind c.args.id.now.0 size (see g q) cached maps) c.in-Some.is only)
     (ap (λ q. cached_in (see g q)) (sym c.in-Some.is) ∙ told)
-    (subst (λ (q : Option g.row.C.Denot). Quiet (cache_faults (see g q)) (g.C.Cache.shelf c.from_cache.new.cache).faults) c.in-Some.is quiet) held still
+    (subst (λ (q : Option g.row.C.Denot). Quiet (cache_faults (see g q)) (g.C.Cache.shelf c.from_cache.new.cache).faults) c.in-Some.is quiet) held agree still

@@ -1,7 +1,4 @@
-use Rattle.std.proofs.Common.{◌≡◌, rules, sym, subst, arith}
-use Rattle.std.specs.Bool.{IsTrue}
-use Rattle.std.specs.List.{list_all}
-use Rattle.dsy_base.specs.Folders.{is_digit}
+use Rattle.std.proofs.Common.{rules, arith}
 use Rattle.chunk_store.proofs.Paths.{all_digits}
 use Rattle.chunk_store.proofs.id.digits_of.Goals as goal
 

@@ -1,11 +1,12 @@
-use Rattle.std.proofs.Common.{◌≡◌, ◌∙◌, ℕ, List, Bool, true, Option, Some, None, IfSome, is_some, length, map, refl, subst, sym, ap, vec_len, arith}
+use Rattle.std.proofs.Common.{◌≡◌, ◌∙◌, ℕ, List, Bool, true, Option, Some, None, IfSome, is_some, length, refl, subst, sym, ap, vec_len, arith}
 use Rattle.assembler.proofs.Others.{seen_alone}
 use Rattle.cache_store.specs.Shelves.{Shelf}
 use Rattle.chunk_sources.specs.Caches.{cache_faults, cached_in, seen}
 use Rattle.chunk_store.specs.Kinds.{kind_named, kind_number}
+use Rattle.chunk_store.specs.Members.{maps_of}
 use Rattle.chunk_store.specs.declared.id.DigestKind.{DigestKind}
 use Rattle.chunk_store.specs.declared.id.DigestKind.TheVariants as kinds
-use Rattle.image_workers.specs.Shared.{NamesShelf, all_stores, all_told, pairs_of}
+use Rattle.image_workers.specs.Shared.{NamesShelf, all_stores, pairs_of}
 use Rattle.image_assembly.proofs.OnePlan.{same_plan}
 use Rattle.image_assembly.proofs.Picking.{picked}
 use Rattle.image_assembly.proofs.Picks.{length_resized, picked_one, picked_permits}
@@ -67,7 +68,7 @@ assemble_named-requires-clause-may g c κs within = λ many d is.
     let t : Task = record { listing = l; plan = plan_of l n; places = x } in
     let cache = seen g.F.Look c.args.cache in
     let pairs = Some (pairs_of l) in
-    let maps = all_told (map g.S.Store.holds (all_stores kits)) in
+    let maps = maps_of g.S.Store.members (all_stores kits) in
     let kind = kind_named (kind_number (kind_of l)) in
     subst (λ (e : Deal). Permits g.S.Store g.V.View (picked g.S.Store g.V.View g.T.View.tells t base (cached_in cache) kits) (record { listing = l; plan = e; places = x }) kits kind (files_of cache) (place_of cache)
     (cache_faults cache) pairs maps cache) (same_plan l n (plan_of l n) d plan is)

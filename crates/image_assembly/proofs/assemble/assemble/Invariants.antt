@@ -1,8 +1,9 @@
-use Rattle.std.proofs.Common.{ℕ, List, [], Option, Some, None, map, vec_len}
+use Rattle.std.proofs.Common.{ℕ, List, [], Option, Some, None, vec_len}
 use Rattle.cache_store.specs.Shelves.{Shelf}
 use Rattle.chunk_sources.specs.Caches.{cache_faults, cached_in, seen}
+use Rattle.chunk_store.specs.Members.{maps_of}
 use Rattle.dsy_base.specs.Maps.{Map}
-use Rattle.image_workers.specs.Shared.{all_stores, all_told, pairs_of}
+use Rattle.image_workers.specs.Shared.{all_stores, pairs_of}
 use Rattle.caibx_codec.specs.Listing.{image_length, kind_of}
 use Rattle.chunk_store.specs.Kinds.{kind_number}
 use Rattle.dsy_base.specs.Bytes.{resized}
@@ -38,5 +39,5 @@ ghosts-assemble_named-N-FolderName g a = record {
   faults = cache_faults (seen g.F.Look a.cache);
   kind = kind_number (kind_of a.index.now);
   pairs = Some (pairs_of a.index.now);
-  stores = all_told (map g.S.Store.holds (all_stores a.kits.items));
+  stores = maps_of g.S.Store.members (all_stores a.kits.items);
 }

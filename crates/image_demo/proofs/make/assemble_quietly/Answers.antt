@@ -20,6 +20,7 @@ returns-clause-verdict g c = λ s v chunks all told.
     judged_alike (kind_of c.args.index.now) s v c.args.kits.items all g.S.Store g.V.View c.args.index.now c.args.planned.now.places c.args.planned.now.plan by.0 c.requires.plan by.1 (omega (arith, c.args.kits.ok.0, c.requires.size.0)) c.requires.tells g.T.View.never_fails _ c.requires.sure.0 _ _ _ _
     c.assemble-ended.result.kits.items _ c.assemble-ended.result.answer by.2 (g.met.T.View.sure _ c.requires.sure.0) (g.met.T.View.sure _ c.requires.sure.0)
     (λ t. (g.met.S.Store g.world.𝓛 g.world.𝓜 g.world.𝓡 ((λ s y. y), (λ y. y), (λ y. y), (λ y. y))).sure t c.requires.sure.1) (λ w. (g.met.V.View g.world.𝓛 g.world.𝓜 g.world.𝓡 ((λ s y. y), (λ y. y), (λ y. y), (λ y. y))).sure w c.requires.sure.2) chunks told
+    (g.met.S.Store g.world.𝓛 g.world.𝓜 g.world.𝓡 ((λ s y. y), (λ y. y), (λ y. y), (λ y. y))).alone
 
 pub returns-clause-reported : goal.returns-clause-reported
 returns-clause-reported g c = λ s v chunks all told.
@@ -27,6 +28,7 @@ returns-clause-reported g c = λ s v chunks all told.
     reported_alike (kind_of c.args.index.now) s v c.args.kits.items all g.S.Store g.V.View c.args.index.now c.args.planned.now.places c.args.planned.now.plan by.0 c.requires.plan by.1 (omega (arith, c.args.kits.ok.0, c.requires.size.0)) c.requires.tells g.T.View.never_fails _ c.requires.sure.0 _ _ _ _
     c.assemble-ended.result.kits.items _ c.assemble-ended.result.answer by.2 (g.met.T.View.sure _ c.requires.sure.0) (g.met.T.View.sure _ c.requires.sure.0)
     (λ t. (g.met.S.Store g.world.𝓛 g.world.𝓜 g.world.𝓡 ((λ s y. y), (λ y. y), (λ y. y), (λ y. y))).sure t c.requires.sure.1) (λ w. (g.met.V.View g.world.𝓛 g.world.𝓜 g.world.𝓡 ((λ s y. y), (λ y. y), (λ y. y), (λ y. y))).sure w c.requires.sure.2) chunks told
+    (g.met.S.Store g.world.𝓛 g.world.𝓜 g.world.𝓡 ((λ s y. y), (λ y. y), (λ y. y), (λ y. y))).alone
 
 pub returns-clause-kept : goal.returns-clause-kept
 returns-clause-kept g c = c.assemble-ended.ensures.kits.2.kept c.requires.sure.0

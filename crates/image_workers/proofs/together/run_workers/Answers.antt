@@ -10,14 +10,15 @@ use Rattle.caibx_codec.specs.Listing.{count_of, kind_of}
 use Rattle.assembler.proofs.Others.{seen_alone}
 use Rattle.cache_store.specs.Shelves.{MayAdd, Shelf, Shelved}
 use Rattle.chunk_sources.proofs.Cached.{stocked_falls, stocked_kind}
-use Rattle.chunk_sources.specs.Caches.{OthersAddListed, Stocked, TakesListed, cache_faults, cached_in, given_maps, seen}
+use Rattle.chunk_sources.specs.Caches.{OthersAddListed, Stocked, TakesListed, cache_faults, cached_in, given_maps, seen, IsListedAs}
 use Rattle.chunk_store.specs.Kinds.{kind_named}
+use Rattle.chunk_store.specs.Members.{maps_of, told_together}
 use Rattle.chunk_store.specs.declared.id.DigestKind.{DigestKind}
 use Rattle.dsy_base.specs.Bytes.{Held}
 use Rattle.dsy_base.specs.Maps.{Map}
 use Rattle.image_workers.proofs.Doors.{lacks_before, lacks_between, named_kind, named_opens}
 use Rattle.image_workers.proofs.Sharing.{Adds, adds_own, door, door_fresh, door_gave, door_lists, door_some, door_told, stocked_alike, stocked_all}
-use Rattle.image_workers.specs.Shared.{GivesNoMore, all_stores, all_told, door_shelf, pairs_of}
+use Rattle.image_workers.specs.Shared.{GivesNoMore, all_stores, door_shelf, pairs_of}
 use Rattle.chunk_sources.specs.Sources.{SourcesQuiet, sources, views_of}
 use Rattle.chunk_sources.specs.declared.kit.Kit.{Kit}
 use Rattle.image_workers.proofs.Exact.{exact_once, exact_twice, lacking_one}
@@ -163,7 +164,7 @@ door_is g c =
 
 added : (g : Over) (c : In-Some g) → Stocked (Adds g.S.Store g.R.RunName.run.listing c.args.workers.kits.items) (at_first g c) (between g c)
 added g c =
-    subst (λ (p : Option (List (List ℕ × ℕ))). Stocked (MayAdd (kind_of g.R.RunName.run.listing) p (all_told (map g.S.Store.holds (all_stores c.args.workers.kits.items)))) (at_first g c) (between g c)) c.requires.pairs
+    subst (λ (p : Option (List (List ℕ × ℕ))). Stocked (MayAdd (kind_of g.R.RunName.run.listing) p (maps_of g.S.Store.members (all_stores c.args.workers.kits.items))) (at_first g c) (between g c)) c.requires.pairs
     (subst (λ (m : Option (List (Map (List ℕ)))). Stocked (MayAdd (kind_of g.R.RunName.run.listing) g.N.FolderName.pairs m) (at_first g c) (between g c)) c.requires.stores
     (subst (λ (k : DigestKind). Stocked (MayAdd k g.N.FolderName.pairs g.N.FolderName.stores) (at_first g c) (between g c)) c.requires.kind c.pass_all-shards.ensures.stocked))
 
@@ -217,8 +218,8 @@ finish-target-requires-clause-may g c =
     let wants = (c.requires.ready 0 q (some_one g here)).ready.wants in
     let step = (first_went g here q).1.passed.stretch.step in
     let w = c.pass_all-shards.result.0 in
-    permits r d x wants g.S.Store g.V.View (views_of g.V.View first.seeds.items) (given_maps (door_seen g c.args.cache)) (map g.S.Store.holds first.chain.stores) (c.requires.permits q)
-    (joined_stage w (between g here) c.in-Some.kit) (gave g here) step.seeds.held step.stores.held
+    permits r d x wants g.S.Store g.V.View (views_of g.V.View first.seeds.items) (given_maps (door_seen g c.args.cache)) (maps_of g.S.Store.members first.chain.stores) (c.requires.permits q)
+    (joined_stage w (between g here) c.in-Some.kit) (gave g here) step.seeds.held (ap told_together step.stores.members)
     (filled_of g.S.Store g.V.View r d x wants w w.held.bytes (c.keeps-2.ensures.tells ∙ c.requires.tells) c.keeps-2.ensures.kept) (λ _. Unit {0})
 
 -- ---- the lists
@@ -364,7 +365,7 @@ returns-clause-kits g c = λ old f begun fill.
     let fresh_door : cache_faults e0 ≡ 0 = ap cache_faults (door_is g here) ∙ door_fresh g.S.Store l kits g.N.FolderName.opening c0 in
     let door_there : IsSome e0 → IsSome c0 = λ some. door_some g.S.Store l kits g.N.FolderName.opening c0 (subst (λ (y : Option Shelf). IsSome y) (door_is g here) some) in
     let ways = λ (q j : Kit g.row.S.Denot g.row.V.Denot) (cached maps : List (Map (List ℕ)))
-    (quiet : (k : ℕ) → k < length kits → SourcesQuiet g.S.Store g.V.View (at_kit (lent f kits c0) k q) (at_kit (lent count outs e) k j) cached maps).
+    (quiet : (k : ℕ) → k < length kits → SourcesQuiet g.S.Store g.V.View (kind_of l) (IsListedAs l) (at_kit (lent f kits c0) k q) (at_kit (lent count outs e) k j) cached maps).
     quiet_ways g.S.Store g.V.View r d x wants kits worked outs q j f count c0 c1 e e0 w0.fates lists cached maps (λ v. v < d.wants) w1 c.in-Some.kit end.kit (g.T.View.held end.target) c.finish-target.ensures.passed.0
     (ap (λ (zs : List (Kit g.row.S.Denot g.row.V.Denot)). slice_index_or zs 0 j) (outs_are g here)) (back j)
     (λ k later. same_later worked outs (reverse c.pop.new.self.items) c.in-Some.kit end.kit (outs_are g here) (kits_back g last) k j later)
@@ -376,16 +377,16 @@ returns-clause-kits g c = λ old f begun fill.
     (c.finish-target.ensures.assembled old.bytes (given_maps e0) (from_first q) (came g here old f begun q)))
     (first_kit g here)
     (λ alike q. adds_own g.S.Store g.V.View l d x wants kits c0 c1 (added g here) alike q)
-    (let q = first_kit g here in stocked_all g.S.Store g.V.View l d x wants kits c0 c1 (added g here) q c.in-Some.kit (some_one g here) (first_went g here q).1.passed.stretch.step.stores.held e passed.stretch.stocked)
+    (let q = first_kit g here in stocked_all g.S.Store g.V.View l d x wants kits c0 c1 (added g here) q c.in-Some.kit (some_one g here) (first_went g here q).1.passed.stretch.step.stores.members e passed.stretch.stocked)
     (λ why q.
-    let now = stocked_all g.S.Store g.V.View l d x wants kits c0 c1 (added g here) q c.in-Some.kit (some_one g here) (first_went g here q).1.passed.stretch.step.stores.held e passed.stretch.stocked in
+    let now = stocked_all g.S.Store g.V.View l d x wants kits c0 c1 (added g here) q c.in-Some.kit (some_one g here) (first_went g here q).1.passed.stretch.step.stores.members e passed.stretch.stocked in
     let first = TakesListed g.S.Store l (slice_index_or kits 0 q).chain.stores in
     elim why [
       | inl unshared ↦
           let none = no_cache unshared in
           let end_none : e ≡ None = stays_none (TakesListed g.S.Store l (all_stores kits)) e (subst (λ (y : Option Shelf). Stocked (TakesListed g.S.Store l (all_stores kits)) y e) none now) in
           subst (λ (y : Option Shelf). Stocked first y e) (sym none) (subst (λ (y : Option Shelf). Stocked first None y) (sym end_none) tt)
-      | inr alike ↦ stocked_alike g.S.Store g.V.View l d x wants kits c0 c1 (added g here) q c.in-Some.kit (some_one g here) (first_went g here q).1.passed.stretch.step.stores.held e passed.stretch.stocked alike
+      | inr alike ↦ stocked_alike g.S.Store g.V.View l d x wants kits c0 c1 (added g here) q c.in-Some.kit (some_one g here) (first_went g here q).1.passed.stretch.step.stores.members e passed.stretch.stocked alike
     ])
     (omega (arith, as_many_kits worked outs (reverse c.pop.new.self.items) c.in-Some.kit end.kit (outs_are g here) (kits_back g last), out_long g here, c.pass_all-shards.ensures.lanes, many g early))
     (λ k q j. by_worker (λ n. n < length kits → KitUsed g.S.Store g.V.View t never sure old.bytes (lent f kits c0) n (at_kit (lent f kits c0) n q) (at_kit (lent count outs e) n j) end.answer)

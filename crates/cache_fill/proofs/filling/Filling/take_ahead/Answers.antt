@@ -13,7 +13,7 @@ use Rattle.cache_fill.proofs.filling.Filling.take_ahead.Goals as goal
 pub add_ahead-requires-clause-read : goal.add_ahead-requires-clause-read
 add_ahead-requires-clause-read g c =
     let w = c.args.self.now in
-    slices_said g.S.Store.holds w.index.now c.args.ready.now w.at c.slice_among-read.result w.first.value.chain.stores w.cached.now.chain.stores c.requires.filling.filled.stores.held c.requires.ready c.slice_among-read.ensures.has
+    slices_said g.S.Store.members w.index.now c.args.ready.now w.at c.slice_among-read.result w.first.value.chain.stores w.cached.now.chain.stores c.requires.filling.filled.stores.members c.requires.ready c.slice_among-read.ensures.has
 
 pub returns-in_err-add_ahead-clause-on : goal.returns-in_err-add_ahead-clause-on
 returns-in_err-add_ahead-clause-on g c =
@@ -27,7 +27,7 @@ returns-in_err-add_ahead-clause-on g c =
     let new : Filling g.row.F.Denot g.row.S.Denot = record w { cached = re_v c.add_ahead.new.cached w.cached; chunk = re_v c.add_ahead.new.chunk w.chunk } in
     subst (λ (r : Result Unit Stop). FillsOn g.F.Look S g.F.Folder.pairs g.F.Folder.stores w new r) (sym answer) (record {
       next = tt;
-      ends = stopped_so g.F.Look S g.F.Folder.pairs g.F.Folder.stores w was c.requires.more now done.chain done.aside done.stocks done.kept new refl refl refl refl why done.stops;
+      ends = stopped_so g.F.Look S g.F.Folder.pairs g.F.Folder.stores w was c.requires.more now done.chain done.aside done.stocks (λ s. g.met.S.Store.alone s) done.kept new refl refl refl refl why done.stops;
       dealt = still_dealt g.F.Look S g.F.Folder.pairs g.F.Folder.stores w was c.requires.more now done.chain done.aside done.stocks (count_of w.index.now) was.at;
       cached = refl;
       index = refl;
@@ -49,7 +49,7 @@ returns-clause-on g c =
         room = λ j less. omega (arith, was.room j less, c.add_ahead.auto.chunk);
         kind = ap (λ (c : Chained g.row.S.Denot). c.kind) done.chain ∙ was.kind;
         unnamed = was.unnamed;
-        filled = went_ahead g.F.Look S g.F.Folder.pairs g.F.Folder.stores w was c.requires.more now done.chain done.aside done.stocks done.ok done.given;
+        filled = went_ahead g.F.Look S g.F.Folder.pairs g.F.Folder.stores w was c.requires.more now done.chain done.aside done.stocks (λ s. g.met.S.Store.alone s) done.ok done.given;
         dealt = still_dealt g.F.Look S g.F.Folder.pairs g.F.Folder.stores w was c.requires.more now done.chain done.aside done.stocks (w.at + 1) up;
       };
       ends = tt;

@@ -23,7 +23,7 @@ returns-in-Err-clause-on g c =
     let turn : Turns S l w.at s t w.cached.now.chain d = record { asks = turn_of S l w.at s t w.cached.now.chain d done.asks; stocks = done.stocks; stores = done.stores } in
     record {
       next = tt;
-      ends = answers_stopped S l w.at c.requires.more s0 s t w.first.value.chain w.cached.now.chain d was.filled turn c.in-Err.fault done.err done.kept;
+      ends = answers_stopped S l (λ s. g.met.S.Store.alone s) w.at c.requires.more s0 s t w.first.value.chain w.cached.now.chain d was.filled turn c.in-Err.fault done.err done.kept;
       dealt = dealt_on S.asked S.queried l (owner_of w.owners.now) 0 (w.at + 1) (count_of l) (omega (arith, c.requires.more)) w.first.value.chain d
           (dealt_turn S l (owner_of w.owners.now) 0 w.at c.requires.own s t w.first.value.chain w.cached.now.chain d was.dealt turn.asks);
       cached = refl;
@@ -51,7 +51,7 @@ returns-in-Ok-clause-on g c =
         room = λ j less. omega (arith, was.room j less, c.fill_entry.auto.chunk);
         kind = done.same ∙ was.kind;
         unnamed = was.unnamed;
-        filled = filled_more S l w.at c.requires.more s0 s t w.first.value.chain w.cached.now.chain d was.filled turn done.ok done.given;
+        filled = filled_more S l (λ s. g.met.S.Store.alone s) w.at c.requires.more s0 s t w.first.value.chain w.cached.now.chain d was.filled turn done.ok done.given;
         dealt = dealt;
       };
       ends = tt;

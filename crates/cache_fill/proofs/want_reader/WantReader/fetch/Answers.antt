@@ -10,7 +10,7 @@ use Rattle.cache_fill.proofs.want_reader.WantReader.fetch.Goals as goal
 
 pub returns-in-Err-clause-right : goal.returns-in-Err-clause-right
 returns-in-Err-clause-right g c =
-    rooms_same g.S.Store.holds c.args.self.now.index.now c.args.self.now.chain.stores c.obtain.new.self.stores c.obtain.ensures.kept.held c.args.room.now c.requires.right
+    rooms_same g.S.Store.members c.args.self.now.index.now c.args.self.now.chain.stores c.obtain.new.self.stores c.obtain.ensures.kept.members c.args.room.now c.requires.right
 
 pub returns-in-Err-clause-on : goal.returns-in-Err-clause-on
 returns-in-Err-clause-on g c = λ first was.
@@ -33,12 +33,12 @@ returns-in-Ok-clause-right g c =
     let r = c.args.self.now in
     let l = r.index.now in
     let entry = c.entry-entry.result in
-    let held = c.obtain.ensures.kept.held in
+    let held = c.obtain.ensures.kept.members in
     let bytes = c.split_at.result.0.now in
-    ahead_adds l (SomeHoldsEntry g.S.Store.holds l c.obtain.new.self.stores) c.args.i bytes c.args.room.now c.push.new.self c.push.ensures
-    (fetched_slice g.S.Store.holds l c.args.i entry.id c.entry-entry.ensures.id r.chain.kind entry.size entry.size c.in-Ok.n c.obtain.new.out bytes r.chain.stores c.obtain.new.self.stores c.requires.kind c.entry-entry.ensures.size
+    ahead_adds l (SomeHoldsEntry g.S.Store.members l c.obtain.new.self.stores) c.args.i bytes c.args.room.now c.push.new.self c.push.ensures
+    (fetched_slice g.S.Store.members l c.args.i entry.id c.entry-entry.ensures.id r.chain.kind entry.size entry.size c.in-Ok.n c.obtain.new.out bytes r.chain.stores c.obtain.new.self.stores c.requires.kind c.entry-entry.ensures.size
     c.split_at.ensures.front c.in-Ok.ensures.ok c.in-Ok.ensures.had held)
-    (rooms_same g.S.Store.holds l r.chain.stores c.obtain.new.self.stores held c.args.room.now c.requires.right)
+    (rooms_same g.S.Store.members l r.chain.stores c.obtain.new.self.stores held c.args.room.now c.requires.right)
 
 pub returns-in-Ok-clause-on : goal.returns-in-Ok-clause-on
 returns-in-Ok-clause-on g c = λ first was.

@@ -6,4 +6,4 @@ use Rattle.cache_fill.proofs.want_reader.WantReaderReaderAhead.begin.Goals as go
 pub returns : goal.returns
 returns g c =
     let l = c.args.self.now.index.now in
-    record { right = empty_ahead l (SomeHoldsEntry g.S.Store.holds l c.args.self.now.chain.stores) c.clear.new.self (c.clear.ensures.right l None).room (c.clear.ensures.none l) }
+    record { right = empty_ahead l (SomeHoldsEntry g.S.Store.members l c.args.self.now.chain.stores) c.clear.new.self (c.clear.ensures.right l None).room (c.clear.ensures.none l) }

@@ -4,7 +4,7 @@ use Rattle.dsy_base.specs.Counts.{raised}
 use Rattle.store_chain.specs.Queries.{query_of}
 use Rattle.store_chain.specs.Chains.{Chained, EachOnce}
 use Rattle.store_chain.specs.declared.query.Query.{Query}
-use Rattle.store_chain.proofs.Chained.{found_in, had_in, absent_in, cause_in, first_in, exactly_in, kept_in, once_in, same_in, written_back}
+use Rattle.store_chain.proofs.Chained.{found_in, had_in, absent_in, cause_in, first_in, exactly_in, kept_in, lacks_in, once_in, same_in, written_back}
 use Rattle.store_chain.proofs.chain.Chain.obtain.Goals as goal
 
 pub returns-clause-found : goal.returns-clause-found
@@ -25,7 +25,15 @@ returns-clause-had g c =
     let want : c.of-query.result ≡ query_of c.args.self.now.kind c.args.id.now c.args.size (length c.args.out.now) =
     c.of-query.ensures ∙ ap (λ (v : Chained g.row.S.Denot). query_of v.kind c.args.id.now c.args.size (length c.args.out.now)) c.self.view_is in
     had_in g.S.Store.said g.S.Store.faults g.S.Store.may_lack_memory c.of-query.result _ want c.as_mut_slice.result.now c.args.self.now.stores c.ask_each.new.stores _ old (sym new)
-    g.S.Store.holds g.met.S.Store.says c.ask_each.ensures.kept.held c.ask_each.result c.ask_each.new.out c.split_at_mut-lent.result.1.now c.ask_each.ensures.ok c.ask_each.ensures.found
+    g.S.Store.members g.met.S.Store.vouched c.ask_each.ensures.kept.members c.ask_each.result c.ask_each.new.out c.split_at_mut-lent.result.1.now c.ask_each.ensures.ok c.ask_each.ensures.found
+
+pub returns-clause-lacks : goal.returns-clause-lacks
+returns-clause-lacks g c =
+    let old : c.as_mut_slice.result.now ≡ c.args.self.now.stores = c.as_mut_slice.ensures.value ∙ ap (λ (v : Chained g.row.S.Denot). v.stores) c.self.view_is in
+    let want : c.of-query.result ≡ query_of c.args.self.now.kind c.args.id.now c.args.size (length c.args.out.now) =
+    c.of-query.ensures ∙ ap (λ (v : Chained g.row.S.Denot). query_of v.kind c.args.id.now c.args.size (length c.args.out.now)) c.self.view_is in
+    lacks_in g.S.Store.said g.S.Store.faults g.S.Store.may_lack_memory c.of-query.result _ want c.as_mut_slice.result.now c.args.self.now.stores c.ask_each.new.stores c.ask_each.new.stores old refl
+    g.S.Store.members g.met.S.Store.vouched c.ask_each.ensures.kept.members c.ask_each.result c.ask_each.ensures.err
 
 pub returns-clause-absent : goal.returns-clause-absent
 returns-clause-absent g c =
