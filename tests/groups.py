@@ -669,16 +669,6 @@ class Scene:
         return f'store {store} failed' if why == 'failing' else formats.refusal(entry, self.image.names[entry], why,
                                                                                  store)
 
-    def texts(self, refused, passes):
-        """The texts that may come. With two passes the run goes on after a refusal, and of a damaged chunk the store of
-        the group is named that is active in the end."""
-        if passes == 1 or refused is None or refused[1] != 'damaged':
-            return [self.text(refused)]
-        entry, why, store = refused
-        ends = list(itertools.accumulate(self.sizes))
-        group = next(number for number, end in enumerate(ends) if store < end)
-        return [self.text((entry, why, other)) for other in range(ends[group] - self.sizes[group], ends[group])]
-
 
 def run_scene(scene, words, passes):
     """Runs the words over the scene's stores, and compares how they end and what they ask. Answers the run, the entries
@@ -688,9 +678,7 @@ def run_scene(scene, words, passes):
         ended = program.run([*words, *given], scene.image.folder)
     asked, had, refused = scene.read(passes)
     text = scene.text(refused)
-    told = ended.err.decode()
-    expect(told in [f'desync: {may}\n' if may else '' for may in scene.texts(refused, passes)],
-           f'standard error of {words[0]} is {told!r}, and not of {text!r}')
+    expect_equal(ended.err.decode(), f'desync: {text}\n' if text else '', f'standard error of {words[0]}')
     expect_equal(ended.status, 1 if text else 0, f'the status of {words[0]}')
     entries = {path: entry for entry, (_, path) in enumerate(scene.image.asks())}
     got = []

@@ -9,6 +9,7 @@ use cache_fill::fill::{FillFault, fill};
 use cache_store::cached::Cached;
 use cache_store::shelf::CacheShelf;
 use chunk_store::shows::Shows;
+use chunk_store::store::Giver;
 use dir_store::store::DirStore;
 use dsy_base::fault::FileFault;
 use dsy_base::folder::Folder;
@@ -18,6 +19,11 @@ use std::alloc::Global;
 use std::process::Abort;
 use std::thread::Threads;
 use store_chain::chain::Chain;
+
+const FIRST: Giver = Giver {
+    number: 0,
+    member: 0,
+};
 
 // A folder that holds these, and whose call of this number fails.
 fn folder_of(
@@ -145,7 +151,7 @@ fn a_damaged_chunk_is_named(rt: HostRuntime) {
     let damaged = Err(FillFault::Damaged {
         entry: 0,
         id: id_of(&rt, ABC),
-        store: 0,
+        store: FIRST,
         shows: Shows::Digest(id_of(&rt, ABX)),
     });
     fills(&rt, alloc, cache, store, damaged, abx, None, 1);

@@ -5,6 +5,7 @@ ghost use Rattle.assembler.specs.Faults.{fault_of};
 
 use chunk_store::id::ChunkId;
 use chunk_store::shows::Shows;
+use chunk_store::store::Giver;
 use store_chain::refused::Refused;
 
 /// Why an assembly was refused.
@@ -19,7 +20,7 @@ pub enum ExtractFault {
     Damaged {
         entry: u64,
         id: ChunkId,
-        store: u32,
+        store: Giver,
         shows: Shows,
     },
     /// The first store that failed, where no source gave a chunk.

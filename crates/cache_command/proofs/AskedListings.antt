@@ -102,26 +102,6 @@ module _ {S : Type 0} (store : StoreWords S) where
       let rest : StoresOf ds ≡ StoresOf cs = cc in
       (remade_asks ls c d e here h.0, remade_asked ls cs ds es rest h.1)
 
-  -- ---- which were made anew since
-
-  asks_to : (ls : List Listing) (c d e : Chained S) → e.stores ≡ d.stores → AsksListings store ls c d → AsksListings store ls c e
-  asks_to ls c d e same h = record {
-    gets = subst (λ xs. AllZip (Few ls) c.stores xs) (sym same) h.gets;
-    heads = ap (map store.queried) same ∙ h.heads;
-    keeps = subst (λ xs. KeepsStores store (IsGetAmong ls) c.stores xs) (sym same) h.keeps;
-  }
-
-  pub asked_to : (ls : List Listing) (cs ds es : List (Chained S)) → StoresOf es ≡ StoresOf ds → AllZip (AsksListings store ls) cs ds → AllZip (AsksListings store ls) cs es
-  asked_to ls [] [] [] same h = h
-  asked_to ls [] [] (e ∷ es) same h = absurd (cc)
-  asked_to ls [] (d ∷ ds) es same h = absurd h
-  asked_to ls (c ∷ cs) [] es same h = absurd h
-  asked_to ls (c ∷ cs) (d ∷ ds) [] same h = absurd (cc)
-  asked_to ls (c ∷ cs) (d ∷ ds) (e ∷ es) same h =
-      let here : e.stores ≡ d.stores = cc in
-      let rest : StoresOf es ≡ StoresOf ds = cc in
-      (asks_to ls c d e here h.0, asked_to ls cs ds es rest h.1)
-
   -- ---- by one after the other
 
   none_listed : (c : Chained S) → AsksListings store [] c c
@@ -159,17 +139,6 @@ module _ {S : Type 0} (store : StoreWords S) where
       let here : d.stores ≡ c.stores = cc in
       let rest : StoresOf ds ≡ StoresOf cs = cc in
       (subst (λ xs. AllZip (λ a b. (q : List ℕ) → store.asked b q ≤ store.asked a q + shares m q) xs e.stores) here h.0, remade_by shares (suc m) cs ds es rest h.1)
-
-  pub shares_to : (shares : ℕ → List ℕ → ℕ) (m : ℕ) (cs ds es : List (Chained S)) → StoresOf es ≡ StoresOf ds → ByNumber (Shares shares) m cs ds → ByNumber (Shares shares) m cs es
-  shares_to shares m [] [] [] same h = h
-  shares_to shares m [] [] (e ∷ es) same h = absurd (cc)
-  shares_to shares m [] (d ∷ ds) es same h = absurd h
-  shares_to shares m (c ∷ cs) [] es same h = absurd h
-  shares_to shares m (c ∷ cs) (d ∷ ds) [] same h = absurd (cc)
-  shares_to shares m (c ∷ cs) (d ∷ ds) (e ∷ es) same h =
-      let here : e.stores ≡ d.stores = cc in
-      let rest : StoresOf es ≡ StoresOf ds = cc in
-      (subst (λ xs. AllZip (λ a b. (q : List ℕ) → store.asked b q ≤ store.asked a q + shares m q) c.stores xs) (sym here) h.0, shares_to shares (suc m) cs ds es rest h.1)
 
   pub remade_shares : (times : List ℕ → ℕ) (cs ds es : List (Chained S)) → StoresOf ds ≡ StoresOf cs → AsksInShares store.asked times ds es → AsksInShares store.asked times cs es
   remade_shares times cs ds es same h = record {

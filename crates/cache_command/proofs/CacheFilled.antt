@@ -16,15 +16,15 @@ use Rattle.chunk_store.specs.declared.id.ChunkId.{ChunkId}
 use Rattle.chunk_store.specs.declared.store.Store.{Ghosts as StoreWords}
 use Rattle.command_groups.proofs.Folders.{put_twice, was_put}
 use Rattle.command_groups.proofs.Given.{group_given_earlier}
-use Rattle.command_groups.proofs.Lacked.{groups_lack}
+use Rattle.command_groups.proofs.Lacked.{groups_lack, lacks_number}
 use Rattle.command_groups.proofs.Quiet.{groups_quiet}
-use Rattle.command_groups.proofs.Seen.{first_active, groups_tell}
-use Rattle.command_groups.proofs.Stand.{active_inside, found_after, fresh_counts, fresh_first}
+use Rattle.command_groups.proofs.Seen.{groups_tell}
+use Rattle.command_groups.proofs.Stand.{found_after, fresh_counts, fresh_first}
 use Rattle.command_groups.proofs.Standing.{Standing, all_groups_stand}
 use Rattle.command_groups.proofs.Words.{group_words}
 use Rattle.command_groups.specs.Groups.{group_files, stores_of}
 use Rattle.command_groups.specs.Lacking.{HaveLackedIn}
-use Rattle.command_groups.specs.Numbers.{answer_of_stores, numbered_by}
+use Rattle.command_groups.specs.Numbers.{answer_of_stores, refused_of_stores}
 use Rattle.command_groups.specs.Opened.{IsFresh, IsGroupGiven, files_in, locations_in, told_files}
 use Rattle.command_outcome.specs.declared.outcome.Outcome.{Outcome}
 use Rattle.command_words.specs.declared.command.Location.{Location}
@@ -42,7 +42,7 @@ use Rattle.command_worlds.specs.Steps.{outcome_of}
 use Rattle.command_worlds.specs.Worlds.{Adds, DiskQuiet, FolderRose, Reads, world}
 use Rattle.command_steps.specs.declared.any_store.AnyStore.{AnyStore}
 use Rattle.command_steps.proofs.Lacked.{same_length}
-use Rattle.cache_command.proofs.Renumbered.{IsAnswerAs, IsFaultAs, IsOutcomeAs, IsSame, IsTold, fault_as, filled_as, fills_as, lacks_as, memory_as, refused_same, same_answer, spelled_as, told_answer, told_lack, told_numbers}
+use Rattle.cache_command.proofs.Renumbered.{IsAnswerAs, IsFaultAs, IsOutcomeAs, IsSame, IsTold, fault_as, filled_as, fills_as, memory_as, same_answer, spelled_as, told_answer, told_lack}
 use Rattle.cache_command.specs.Caching.{HoldsFirst, AddsListed, AllFilled, CacheEnds, EndsFilling, Evidence, FillExactly, FillTells, FilledBetween, FillsEach, IndexFilled, IsHeldListed, IsNotHad, NotFilled, StopsFilling, answer_of_fill, of_calls, of_command, outcome_of_fill, GetsListed}
 use Rattle.dsy_base.specs.Counts.{Quiet, Rose}
 use Rattle.dsy_base.specs.Disk.{Disk, Output}
@@ -51,6 +51,7 @@ use Rattle.dsy_base.specs.Maps.{Map, at_name}
 use Rattle.dsy_base.specs.declared.look.Look.{Ghosts as LookWords}
 use Rattle.image_store.specs.PutChunks.{IsListedId as IsAmong}
 use Rattle.store_chain.specs.Chains.{Chained, KeepsStores}
+use Rattle.store_chain.specs.Giving.{LacksAll}
 use Rattle.store_chain.specs.Faults.{EachQuiet, NoneFalls}
 use Rattle.store_chain.specs.declared.refused.Refused.{Refused}
 use Rattle.store_chain.specs.declared.refused.Refused.TheVariants as refused
@@ -146,7 +147,7 @@ module _ {S : Type 0} (store : StoreWords S) (lies : (s : S) → IfSome (store.f
       cache = if_told (option_map chunks s1.files) (λ m. GivesEntry l h.entry m → Rose s0.faults s1.faults)
           (λ m is gives. rose_later s0.faults h.shelf.faults s1.faults h.before.stocks.never_falls (of_told (held_on h.shelf) (λ m. GivesEntry l h.entry m → Rose h.shelf.faults s1.faults) m (ap (option_map chunks) (sym e.kept) ∙ is) e.unfound gives));
       said = subst (λ (n : ℕ). Told (entry_want l h.entry id) r (slice_index_or (each_stores (c1 ∷ f1)) n [])) (sym first) (h.chain.stores, same_length store.place h.chain.stores c1.stores (h.before.stores.places ∙ sym kept.places), e.refused);
-      lacks = λ fs told. (r, refused_same r, e.lacks (map chunks fs) (h.before.stores.held ∙ maps_of fs told));
+      lacks = λ fs told. (r, refl, e.lacks (map chunks fs) (h.before.stores.held ∙ maps_of fs told));
     }
 
     tells : (f : FillFault) → EntryFails store l h.entry h.shelf s1 h.chain c1 f → FillTells Calls l s1.files h.entry f
@@ -181,7 +182,7 @@ module _ {S : Type 0} (store : StoreWords S) (lies : (s : S) → IfSome (store.f
       cache = if_told (option_map chunks s1.files) (λ m. GivesEntry l h.entry m → Rose s0.faults s1.faults)
           (λ m is gives. rose_later s0.faults h.shelf.faults s1.faults h.before.stocks.never_falls (of_told (held_on h.shelf) (λ m. GivesEntry l h.entry m → Rose h.shelf.faults s1.faults) m (ap (option_map chunks) (sym h.kept) ∙ is) h.unfound gives));
       said = subst (Told (entry_want l h.entry id) r) (sym told_is) (e.chain.stores, length_all_zip (λ a b. AskedOnce (store.asked a) (store.asked b) (id_of l h.entry)) e.chain.stores (slice_index_or f1 h.further c0).stores e.asked.stores, e.refused);
-      lacks = λ fs told. (r, refused_same r, e.lacks (map chunks fs) (alike h.further c0 (omega (arith, many, h.inside)) ∙ maps_of fs told));
+      lacks = λ fs told. (r, refl, e.lacks (map chunks fs) (alike h.further c0 (omega (arith, many, h.inside)) ∙ maps_of fs told));
     }
 
     tells_ahead : (id : ChunkId) (r : Refused) → RefusesAhead store l h.entry id r (slice_index_or f0 h.further c0) (slice_index_or f1 h.further c0) → FillTells Calls l s1.files h.entry (fill_fault_of h.entry id r)
@@ -234,13 +235,13 @@ module _ (a b : Evidence) (held : (fs : List (Map (List ℕ))) → b.holds fs �
 
   -- what the one refuses for a reason, the other refuses for another one, which names a store by another number
   module _ (N : Refused → Refused → Type 0) (refuse : (c : Query) (r n : Refused) → N r n → a.refused c r → b.refused c n) (none : N refused.Missing refused.Missing)
-      (numbers : (fs : List (Map (List ℕ))) → b.holds fs → (r n by_group : Refused) → N r n → r ≡ numbered_by a.number by_group → n ≡ numbered_by b.number by_group) (cache : a.cache_failed → b.cache_failed) where
+      (tells : (c : Query) (maps : List (Map (List ℕ))) (r n by_group : Refused) → N r n → r ≡ a.told by_group → LacksAll c maps by_group → n ≡ b.told by_group) (cache : a.cache_failed → b.cache_failed) where
     lost_wider : (l : Listing) (y : Option (Map (List ℕ))) (k : ℕ) (id : ChunkId) (r n : Refused) → N r n → IsNotHad a l y k id r → IsNotHad b l y k id n
     lost_wider l y k id r n is h = record {
       id_is = h.id_is;
       cache = if_told (option_map chunks y) (λ m. GivesEntry l k m → b.cache_failed) (λ m held_is gives. cache (of_told (option_map chunks y) (λ m. GivesEntry l k m → a.cache_failed) m held_is h.cache gives));
       said = refuse _ r n is h.said;
-      lacks = λ fs told. lacks_as N a.number b.number (numbers fs told) (entry_want l k id) (map chunks fs) r n is (h.lacks fs (held fs told));
+      lacks = λ fs told. (let lack = h.lacks fs (held fs told) in (lack.0, tells (entry_want l k id) (map chunks fs) r n lack.0 is lack.1 lack.2, lack.2));
     }
 
     tells_wider : (l : Listing) (y : Option (Map (List ℕ))) (k : ℕ) (f g : FillFault) → IsFaultAs N f g → FillTells a l y k f → FillTells b l y k g
@@ -337,7 +338,7 @@ module _ {S : Type 0} (store : StoreWords S) (m0 m1 m2 : ℕ) (b0 b1 b2 : List (
   fills_on q indexes l x z y r listed filled rest =
       fills_next all w v q indexes l x z y r listed
       (done_wider first all (λ fs told. told) (λ fs told quiet. still_first quiet) l x z filled)
-      (fills_wider next all (λ fs told. same ∙ told) (λ fs told quiet. still_next quiet) IsSame (λ c x n is h. subst (next.refused c) (sym is) h) refl (λ fs told x n by_group is same. is ∙ same) (rose_later m0 m1 m2 below) u v w v part indexes z y r r (same_answer r) rest)
+      (fills_wider next all (λ fs told. same ∙ told) (λ fs told quiet. still_next quiet) IsSame (λ c x n is h. subst (next.refused c) (sym is) h) refl (λ q maps x n by_group is same lacks. is ∙ same) (rose_later m0 m1 m2 below) u v w v part indexes z y r r (same_answer r) rest)
 
 -- how filling by an index was answered
 pub fill_stopped : (over : Evidence) (l : Listing) (x y : Option (Map (List ℕ))) (r : Result Unit FillFault) (o : Outcome) → answer_of_fill r ≡ Err o → IndexFilled over l x y r
@@ -452,17 +453,10 @@ module _ (cache : List ℕ) (s t : Shelf) (d0 b c e : Disk) (i k j : DialState) 
       quiet fs told still =
           groups_quiet look.never_fails look.files look.place look.faults state w v names fs before after (fresh_counts (source_faults look.faults state) again before names many is.fresh) (is.told_same ∙ held fs told) given_all still.folders
 
-      inside : (n : ℕ) → n < length names → slice_index (map (λ (g : Grouped (AnyStore L D K)). g.active) after) n < length (slice_index_or names n [])
-      inside = active_inside look.place after names is.located (λ n g lt. (given_all n g lt).active)
-
-      -- where they tell, the first store of each is asked first
-      first_asked : (fs : List (Map (List ℕ))) → (of_command look.never_fails again w v names cache).holds fs → (n : ℕ) → slice_index (map (λ (g : Grouped (AnyStore L D K)). g.active) after) n ≡ 0
-      first_asked fs told = first_active look.never_fails look.files after fs (is.told_same ∙ held fs told) (λ n g lt. (given_all n g lt).active)
-
-      refuse : (q : Query) (r n : Refused) → IsTold names (map (λ g. g.active) after) r n
+      refuse : (q : Query) (r n : Refused) → IsTold names r n
           → (asked : List (Grouped (AnyStore L D K))) × (length asked ≡ length after) × Refuses Words.said Words.faults Words.may_lack_memory q asked after r → HaveLackedIn again q w v names n
       refuse q r n told h =
-          told_lack names (map (λ g. g.active) after) inside again w v q r n told
+          told_lack names again w v q r n told
           (groups_lack (locations_in look.place) (group_told false look.never_fails (chunks_in look.files) (said_in look.files state)) (λ g. g.failed) again w v names true q r h.0 after h.1 is.located stand h.2)
 
     all_quiet : (fs : List (Map (List ℕ))) → (of_command look.never_fails again w v names cache).holds fs → DiskQuiet d e → (befores afters : List (List (Grouped (AnyStore L D K)))) → AllZip IsBack befores afters → AllZip (λ x y. EachQuiet (map (λ g. g.failed) x) (map (λ g. g.failed) y)) befores afters
@@ -474,12 +468,11 @@ module _ (cache : List ℕ) (s t : Shelf) (d0 b c e : Disk) (i k j : DialState) 
     -- the groups of all workers, of which the first are `before`, and that whose stores refused a chunk
     pub filled_between : (before : List (Grouped (AnyStore L D K))) (befores afters : List (List (Grouped (AnyStore L D K)))) → AllZip IsBack (before ∷ befores) afters → (worker : ℕ) → worker < length afters → (most : ℕ) (indexes : List (List ℕ)) (r : Result Unit Outcome)
         → FillsEach (of_calls (group_words look state) (before ∷ befores) afters worker 0 t.faults) (storage d0 i) (storage b k) indexes s.files t.files r
-        → (IsTrue (are_files indexes) → k ≡ i) → GetsListed w v again most indexes names → FilledBetween look.never_fails names again cache most indexes w v (answer_of_stores names (map (λ (g : Grouped (AnyStore L D K)). g.active) (slice_index_or afters worker [])) r)
+        → (IsTrue (are_files indexes) → k ≡ i) → GetsListed w v again most indexes names → FilledBetween look.never_fails names again cache most indexes w v (answer_of_stores names r)
     filled_between before befores [] backs worker less most indexes r h undialed gets = absurd backs
     filled_between before befores (after ∷ afters) backs worker less most indexes r h undialed gets =
         let their : List (Grouped (AnyStore L D K)) = slice_index_or (after ∷ afters) worker [] in
         let was : List (Grouped (AnyStore L D K)) = slice_index_or (before ∷ befores) worker [] in
-        let active = map (λ (g : Grouped (AnyStore L D K)). g.active) their in
         let as_many : length (before ∷ befores) ≡ length (after ∷ afters) = length_all_zip IsBack (before ∷ befores) (after ∷ afters) backs in
         let is : IsBack was their = AllZip-get_or IsBack (before ∷ befores) (after ∷ afters) worker [] [] backs (omega (arith, less, as_many)) in
         record {
@@ -488,8 +481,8 @@ module _ (cache : List ℕ) (s t : Shelf) (d0 b c e : Disk) (i k j : DialState) 
           now = t.files;
           filled = fills_wider (of_calls (group_words look state) (before ∷ befores) (after ∷ afters) worker 0 t.faults) (of_command look.never_fails again w v names cache) (held before after backs.0)
               (λ fs told still. (cache_quiet still, all_quiet fs told still (before ∷ befores) (after ∷ afters) backs))
-              (IsTold names active) (refuse was their is) refl (λ fs told. told_numbers names active (first_asked was their is fs told)) cache_failed
-              (storage d0 i) (storage b k) w v part indexes s.files t.files r (answer_of_stores names active r) (told_answer names active r) h;
+              (IsTold names) (refuse was their is) refl (λ q maps x y by_group is same lacks. is ∙ ap (refused_of_stores names) same ∙ lacks_number names q maps by_group lacks) cache_failed
+              (storage d0 i) (storage b k) w v part indexes s.files t.files r (answer_of_stores names r) (told_answer names r) h;
           back = back;
           adds = all_adds;
           dials = dials_twice i k j part.during closes.0.dial;

@@ -13,15 +13,15 @@ use Rattle.command_groups.proofs.Asked.{groups_asked, groups_turn_dialed}
 use Rattle.chunk_dealing.proofs.Owners.{number_at}
 use Rattle.chunk_dealing.specs.Dealing.{ByNumber}
 use Rattle.command_groups.proofs.Given.{group_given_earlier, group_given_longer}
-use Rattle.command_groups.proofs.Stand.{folders_still, fresh_tries, groups_stand_still, groups_try_still}
+use Rattle.command_groups.proofs.Stand.{fresh_tries, groups_stand_still, groups_try_still}
 use Rattle.command_groups.proofs.Words.{group_words}
-use Rattle.command_groups.specs.Asking.{GroupsAsked, WorkersGroupsDialed, with_retries}
+use Rattle.command_groups.specs.Asking.{GroupsAsked, with_retries}
 use Rattle.command_groups.specs.Groups.{stores_of}
 use Rattle.command_groups.specs.Opened.{AreUnused, IsFresh, IsGroupGiven, files_in, with_group}
 use Rattle.command_steps.proofs.Asking.{none_more}
 use Rattle.command_steps.proofs.Consulted.{consults_twice}
 use Rattle.command_steps.specs.AnyStores.{source_faults}
-use Rattle.command_steps.specs.Asking.{Asks, AsksOnly}
+use Rattle.command_steps.specs.Asking.{AsksOnly, WorkersDialed}
 use Rattle.command_steps.specs.Sources.{ConsultsStores, Storage}
 use Rattle.command_steps.specs.Turns.{GivenInTurn}
 use Rattle.command_steps.specs.declared.any_store.AnyStore.{AnyStore}
@@ -37,22 +37,6 @@ zip_stores R [] [] many each = tt
 zip_stores R [] (d ∷ ds) many each = absurd (omega (arith, many))
 zip_stores R (c ∷ cs) [] many each = absurd (omega (arith, many))
 zip_stores R (c ∷ cs) (d ∷ ds) many each = (each 0 c (omega arith), zip_stores R cs ds (omega (arith, many)) (λ n x less. each (suc n) x (omega (arith, less))))
-
--- the stores of a further worker, of whom the first has number 1
-pub their_stores : {S : Type 0} (first : List S) (xs : List (Chained S)) (worker : ℕ) (x : Chained S) → 1 ≤ worker → worker - 1 < length xs → x ≡ slice_index_or xs (worker - 1) x → slice_index_or (first ∷ each_stores xs) worker [] ≡ x.stores
-their_stores first xs zero x some inside is = absurd (omega (arith, some))
-their_stores first xs (suc n) x some inside is =
-    let same : suc n - 1 ≡ n = omega arith in
-    get_or-map (λ c. c.stores) xs n x [] (omega (arith, inside)) ∙ ap (λ c. c.stores) (sym (subst (λ (m : ℕ). x ≡ slice_index_or xs m x) same is))
-
--- one was taken out, and put back where it stood as what f can't tell from it
-pub put_back : {X Y : Type 0} (f : X → Y) (xs taken back : List X) (n : ℕ) (x y : X) → n < length xs → x ≡ slice_index_or xs n x → taken ≡ remove xs n → back ≡ insert taken n y → f y ≡ f x → map f back ≡ map f xs
-put_back f xs taken back n x y less is taken_is back_is same =
-    ap (map f) (back_is ∙ ap (λ ys. insert ys n y) taken_is) ∙ go xs n less is where
-      go : (xs : List _) (n : ℕ) → n < length xs → x ≡ slice_index_or xs n x → map f (insert (remove xs n) n y) ≡ map f xs
-      go [] n less is = absurd (omega (arith, less))
-      go (z ∷ xs) zero less is = ap (λ w. w ∷ map f xs) (same ∙ ap f is)
-      go (z ∷ xs) (suc n) less is = ap (λ ws. f z ∷ ws) (go xs n (omega (arith, less)) is)
 
 module _ {L D K : Type 0} (look : LookWords L) (state : D → DialState) where
   abbrev Words : StoreWords (Grouped (AnyStore L D K))
@@ -76,7 +60,7 @@ module _ {L D K : Type 0} (look : LookWords L) (state : D → DialState) where
 
   -- its folders hold what they held
   pub chain_files : (ls : List Listing) (c d : Chained (Grouped (AnyStore L D K))) → AsksListings Words ls c d → map (files_in look.files) d.stores ≡ map (files_in look.files) c.stores
-  chain_files ls c d h = folders_still look.place look.never_fails look.files state (IsGetAmong ls) c.stores d.stores (chain_stands ls c d h) h.keeps.files h.keeps.sends
+  chain_files ls c d h = h.keeps.folders
 
   abbrev Few : (List ℕ → ℕ) → Chained (Grouped (AnyStore L D K)) → Chained (Grouped (AnyStore L D K)) → Type 0
   Few times c d = AllZip (λ a b. (q : List ℕ) → Words.asked b q ≤ Words.asked a q + times q) c.stores d.stores
@@ -86,15 +70,15 @@ module _ {L D K : Type 0} (look : LookWords L) (state : D → DialState) where
       → GroupsAsked again times (λ id. 0) (IsGetAmong ls) names old new
   chain_dialed ls times names again c d old new h few unused fresh at ended =
       let stands = chain_stands ls c d h in
-      groups_asked look.place state look.files again times (λ id. 0) (IsGetAmong ls) c.stores d.stores names old new unused (chain_tries ls again c d h fresh) stands
+      groups_asked look.place state again times (λ id. 0) (IsGetAmong ls) c.stores d.stores names old new unused (chain_tries ls again c d h fresh) stands
       few (none_more Words.queried c.stores d.stores h.heads) h.keeps.sends (stands ∙ at) ended
 
   -- those of all: the further workers', and then the first one's
   pub all_dialed : (ls : List Listing) (shares : ℕ → List ℕ → ℕ) (names : List (List Location)) (again : ℕ) (c d : Chained (Grouped (AnyStore L D K))) (cs ds : List (Chained (Grouped (AnyStore L D K)))) (w u : Storage) (new : Option (List Traffic)) → AsksListings Words ls c d → AllZip (AsksListings Words ls) cs ds → ByNumber (λ k. Few (shares k)) 0 (c ∷ cs) (d ∷ ds)
       → All (λ x. All (AreUnused state) x.stores) (c ∷ cs) → All (AllFresh again) (c ∷ cs) → chain_groups look c ≡ names → All (λ x. chain_groups look x ≡ names) cs → GivenInTurn (IsChainGiven look state) ds w u → new ≡ fold (with_group state) u.dial.ended d.stores
-      → WorkersGroupsDialed (λ n. AsksOnly (with_retries again (shares n)) (with_retries again (λ id. 0)) (IsGetAmong ls)) (λ n. Asks (with_retries again (shares n)) (with_retries again (λ id. 0))) (1 + length ds) names w.dial.ended new
+      → WorkersDialed (λ n. AsksOnly (with_retries again (shares n)) (with_retries again (λ id. 0)) (IsGetAmong ls)) (1 + length ds) (stores_of names) w.dial.ended new
   all_dialed ls shares names again c d cs ds w u new h zip few unused fresh at all turn ended =
-      groups_turn_dialed (IsChainGiven look state) (λ n. AsksOnly (with_retries again (shares n)) (with_retries again (λ id. 0)) (IsGetAmong ls)) (λ n. Asks (with_retries again (shares n)) (with_retries again (λ id. 0))) names 1 ds w u new turn
+      groups_turn_dialed (IsChainGiven look state) (λ n. AsksOnly (with_retries again (shares n)) (with_retries again (λ id. 0)) (IsGetAmong ls)) (stores_of names) 1 ds w u new turn
       (λ i x lt a b is.
       let inside : i < length cs = omega (arith, lt, length_all_zip (AsksListings Words ls) cs ds zip) in
       chain_dialed ls (shares (1 + i)) names again (slice_index_or cs i x) (slice_index_or ds i x) a.dial.ended b.dial.ended (AllZip-get_or (AsksListings Words ls) cs ds i x x zip inside) (number_at (λ k. Few (shares k)) 1 cs ds i x x few.1 inside)

@@ -5,10 +5,11 @@ use Rattle.cache_fill.specs.Filling.{FillsBy, filled_to}
 use Rattle.cache_fill.specs.declared.fill.FillFault.{FillFault}
 use Rattle.cache_fill.specs.declared.fill.FillFault.TheVariants as faults
 use Rattle.caibx_codec.specs.Listing.{Listing}
-use Rattle.command_groups.proofs.Lacked.{damaged_numbered, fault_numbered, missing_numbered}
+use Rattle.chunk_store.specs.declared.store.Giver.{Giver}
+use Rattle.command_groups.proofs.Lacked.{have_lacked_in}
 use Rattle.command_groups.specs.Groups.{first_store}
 use Rattle.command_groups.specs.Lacking.{GroupsLack, HaveLackedIn, LacksIn}
-use Rattle.command_groups.specs.Numbers.{answer_of_stores, numbered_by, outcome_of_stores, refused_of_stores}
+use Rattle.command_groups.specs.Numbers.{answer_of_stores, outcome_of_stores, refused_of_stores, store_numbered}
 use Rattle.command_indexes.specs.Spelled.{NotSpelled, NotSpelledAt}
 use Rattle.command_outcome.specs.declared.outcome.Outcome.{Outcome}
 use Rattle.command_outcome.specs.declared.outcome.Outcome.TheVariants as ends
@@ -25,25 +26,18 @@ use Rattle.store_chain.specs.declared.refused.Refused.TheVariants as refused
 
 -- ---- numbers of stores by those of groups
 
--- where the numbers are those of groups
-pub refused_same : (r : Refused) → r ≡ numbered_by (λ k. k) r
-refused_same refused.Missing = refl
-refused_same (refused.Damaged k x) = refl
-refused_same (refused.StoreFault k) = refl
-refused_same refused.Memory = refl
-
 module _ (N : Refused → Refused → Type 0) where
   -- the fault is told so
   abbrev pub IsFaultAs : FillFault → FillFault → Type 0
   IsFaultAs (faults.Missing k id) g = g ≡ faults.Missing k id
-  IsFaultAs (faults.Damaged k id s x) g = (t : ℕ) × N (refused.Damaged s x) (refused.Damaged t x) × (g ≡ faults.Damaged k id t x)
+  IsFaultAs (faults.Damaged k id s x) g = (t : Giver) × N (refused.Damaged s x) (refused.Damaged t x) × (g ≡ faults.Damaged k id t x)
   IsFaultAs (faults.StoreFault s) g = (t : ℕ) × N (refused.StoreFault s) (refused.StoreFault t) × (g ≡ faults.StoreFault t)
   IsFaultAs faults.CacheFault g = g ≡ faults.CacheFault
   IsFaultAs faults.Memory g = g ≡ faults.Memory
 
   -- so is the outcome
   abbrev pub IsOutcomeAs : Outcome → Outcome → Type 0
-  IsOutcomeAs (ends.Damaged k id s x) p = (t : ℕ) × N (refused.Damaged s x) (refused.Damaged t x) × (p ≡ ends.Damaged k id t x)
+  IsOutcomeAs (ends.Damaged k id s x) p = (t : Giver) × N (refused.Damaged s x) (refused.Damaged t x) × (p ≡ ends.Damaged k id t x)
   IsOutcomeAs (ends.StoreFault s) p = (t : ℕ) × N (refused.StoreFault s) (refused.StoreFault t) × (p ≡ ends.StoreFault t)
   IsOutcomeAs other p = p ≡ other
 
@@ -61,11 +55,6 @@ module _ (N : Refused → Refused → Type 0) where
   filled_as l (faults.StoreFault s) g (t, n, named) = ap (λ (h : FillFault). filled_to l (Err h)) (sym named)
   filled_as l faults.CacheFault g named = ap (λ (h : FillFault). filled_to l (Err h)) (sym named)
   filled_as l faults.Memory g named = ap (λ (h : FillFault). filled_to l (Err h)) (sym named)
-
-  -- the numbers of stores go on as N says
-  module _ (old new : ℕ → ℕ) (numbers : (r n by_group : Refused) → N r n → r ≡ numbered_by old by_group → n ≡ numbered_by new by_group) where
-    pub lacks_as : (c : Query) (maps : List (Map (List ℕ))) (r n : Refused) → N r n → LacksIn old c maps r → LacksIn new c maps n
-    lacks_as c maps r n is h = (h.0, numbers r n h.0 is h.1, h.2)
 
   pub fills_as : (l : Listing) (m : Map (List ℕ)) (maps : List (Map (List ℕ))) (f g : FillFault) → IsFaultAs f g → FillsBy l m maps (Err f) → FillsBy l m maps (Err g)
   fills_as l m maps (faults.Missing k id) g named h = subst (λ (e : FillFault). FillsBy l m maps (Err e)) (sym named) h
@@ -117,32 +106,18 @@ same_answer (Err o) = (o, refl, same_outcome o)
 
 -- ---- by the numbers of the groups' stores
 
-module _ (groups : List (List Location)) (active : List ℕ) where
+module _ (groups : List (List Location)) where
   abbrev pub IsTold : Refused → Refused → Type 0
-  IsTold r n = n ≡ refused_of_stores groups active r
+  IsTold r n = n ≡ refused_of_stores groups r
 
-  told_outcome : (o : Outcome) → IsOutcomeAs IsTold o (outcome_of_stores groups active o)
-  told_outcome (ends.Damaged k id s x) = (first_store groups s + slice_index active s, refl, refl)
+  told_outcome : (o : Outcome) → IsOutcomeAs IsTold o (outcome_of_stores groups o)
+  told_outcome (ends.Damaged k id s x) = (store_numbered groups s, refl, refl)
   told_outcome (ends.StoreFault s) = (first_store groups s, refl, refl)
   told_outcome other = refl
 
-  pub told_answer : (r : Result Unit Outcome) → IsAnswerAs IsTold r (answer_of_stores groups active r)
+  pub told_answer : (r : Result Unit Outcome) → IsAnswerAs IsTold r (answer_of_stores groups r)
   told_answer (Ok u) = refl
-  told_answer (Err o) = (outcome_of_stores groups active o, refl, told_outcome o)
+  told_answer (Err o) = (outcome_of_stores groups o, refl, told_outcome o)
 
-  module _ (inside : (k : ℕ) → k < length groups → slice_index active k < length (slice_index_or groups k [])) where
-    pub told_lack : (again : ℕ) (w v : Storage) (c : Query) (r n : Refused) → IsTold r n → GroupsLack again c w v groups r → HaveLackedIn again c w v groups n
-    told_lack again w v c refused.Missing n is h = subst (HaveLackedIn again c w v groups) (sym is) (missing_numbered again c w v groups h)
-    told_lack again w v c (refused.Damaged k x) n is h = subst (HaveLackedIn again c w v groups) (sym is) (damaged_numbered again c w v groups active inside k x h)
-    told_lack again w v c (refused.StoreFault k) n is h = subst (HaveLackedIn again c w v groups) (sym is) (fault_numbered again c w v groups k h)
-    told_lack again w v c refused.Memory n is h = subst (HaveLackedIn again c w v groups) (sym is) (refused.Memory, refl, tt)
-
-  -- where the first store of each group is asked first, its number is told
-  pub told_numbers : ((k : ℕ) → slice_index active k ≡ 0) → (r n by_group : Refused) → IsTold r n → r ≡ numbered_by (λ k. k) by_group → n ≡ numbered_by (first_store groups) by_group
-  told_numbers first r n refused.Missing is same = is ∙ ap (refused_of_stores groups active) same
-  told_numbers first r n (refused.Damaged k x) is same =
-      let at = first k in
-      let number : first_store groups k + slice_index active k ≡ first_store groups k = omega (arith, at) in
-      is ∙ ap (refused_of_stores groups active) same ∙ ap (λ (t : ℕ). refused.Damaged t x) number
-  told_numbers first r n (refused.StoreFault k) is same = is ∙ ap (refused_of_stores groups active) same
-  told_numbers first r n refused.Memory is same = is ∙ ap (refused_of_stores groups active) same
+  pub told_lack : (again : ℕ) (w v : Storage) (c : Query) (r n : Refused) → IsTold r n → GroupsLack again c w v groups r → HaveLackedIn again c w v groups n
+  told_lack again w v c r n is h = subst (HaveLackedIn again c w v groups) (sym is) (have_lacked_in again c w v groups r h)

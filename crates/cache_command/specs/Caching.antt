@@ -13,14 +13,15 @@ use Rattle.chunk_store.specs.Folders.{chunks}
 use Rattle.chunk_store.specs.Giving.{IsChunk}
 use Rattle.chunk_store.specs.declared.id.ChunkId.{ChunkId}
 use Rattle.chunk_store.specs.declared.store.Store.{Ghosts as StoreWords}
-use Rattle.command_groups.specs.Asking.{WorkersGroupsDialed, with_retries}
+use Rattle.command_groups.specs.Asking.{with_retries}
 use Rattle.command_groups.specs.Groups.{first_store, group_files, stores_of}
-use Rattle.command_groups.specs.Lacking.{HaveLackedIn, LacksIn}
+use Rattle.command_groups.specs.Lacking.{HaveLackedIn}
+use Rattle.command_groups.specs.Numbers.{numbered_by}
 use Rattle.command_outcome.specs.declared.outcome.Outcome.{Outcome}
 use Rattle.command_outcome.specs.declared.outcome.Outcome.TheVariants as ends
 use Rattle.command_indexes.specs.Places.{are_files}
 use Rattle.command_indexes.specs.Spelled.{AsksInTurn, NotSpelled, IndexSpells}
-use Rattle.command_steps.specs.Asking.{Asks, AsksOnly}
+use Rattle.command_steps.specs.Asking.{AsksOnly, WorkersDialed}
 use Rattle.command_steps.specs.Cache.{CacheOpened}
 use Rattle.command_steps.specs.Dials.{Dials}
 use Rattle.command_steps.specs.Sources.{OnStorage, SourcesOpened, Storage}
@@ -35,6 +36,7 @@ use Rattle.dsy_base.specs.Maps.{Map, at_name}
 use Rattle.image_store.specs.PutChunks.{HoldsNamed, IsListedId as IsAmong}
 use Rattle.image_chop.specs.Chopping.{times_listed}
 use Rattle.store_chain.specs.Faults.{EachQuiet}
+use Rattle.store_chain.specs.Giving.{LacksAll}
 use Rattle.store_chain.specs.Refusals.{Refuses}
 use Rattle.store_chain.specs.declared.refused.Refused.{Refused}
 use Rattle.store_chain.specs.declared.refused.Refused.TheVariants as refused
@@ -49,8 +51,8 @@ use Rattle.cache_fill.specs.declared.fill.FillFault.TheVariants as faults
 pub record Evidence : Type 1 where
   -- all groups of stores tell, and hold these files
   pub holds : List (Map (List ℕ)) → Type 0
-  -- the number of a store by that of its group
-  pub number : ℕ → ℕ
+  -- how a refusal that names a group is told
+  pub told : Refused → Refused
   -- the stores have refused what is wanted, for this reason
   pub refused : Query → Refused → Type 0
   -- calls on the cache have failed; no call has
@@ -62,7 +64,7 @@ pub record Evidence : Type 1 where
 abbrev pub of_command : (sure : Bool) → ℕ → Storage → Storage → List (List Location) → List ℕ → Evidence
 of_command sure e w v groups cache = record {
   holds = λ fs. IsSomeAnd w.disk.folders (λ n. map (group_files sure n) groups ≡ map Some fs);
-  number = first_store groups;
+  told = numbered_by (first_store groups);
   refused = λ c r. HaveLackedIn e c w v groups r;
   cache_failed = FolderRose w.disk v.disk cache;
   unfailed = DiskQuiet w.disk v.disk;
@@ -73,7 +75,7 @@ of_command sure e w v groups cache = record {
 abbrev pub of_calls : {S : Type 0} → StoreWords S → List (List S) → List (List S) → ℕ → ℕ → ℕ → Evidence
 of_calls {S} store before after worker m n = record {
   holds = λ fs. map store.folder (slice_index_or before 0 []) ≡ map Some fs;
-  number = λ k. k;
+  told = λ r. r;
   refused = λ c r. (asked : List S) × (length asked ≡ length (slice_index_or after worker []))
       × Refuses store.said store.faults store.may_lack_memory c asked (slice_index_or after worker []) r;
   cache_failed = Rose m n;
@@ -120,7 +122,7 @@ module _ (over : Evidence) where
     pub cache : IfSome (option_map chunks y) (λ m. GivesEntry l k m → over.cache_failed)
     pub said : over.refused (entry_want l k id) r
     pub lacks : (fs : List (Map (List ℕ))) → over.holds fs
-        → LacksIn over.number (entry_want l k id) (map chunks fs) r
+        → (by_group : Refused) × (r ≡ over.told by_group) × LacksAll (entry_want l k id) (map chunks fs) by_group
 
   -- what the answer says of the entry at which filling ended. Where the cache failed, the stores gave the chunk
   abbrev pub FillTells : Listing → Option (Map (List ℕ)) → ℕ → FillFault → Type 0
@@ -196,7 +198,7 @@ IsGetAmong (l ∷ ls) a = IsListedGet l a ⊎ IsGetAmong ls a
 -- the URLs among the indexes were asked for in order. Up to `most` workers, or one, asked the servers of chunks. Each
 -- has a share, and all of them together ask for the chunk of an id at most once for each entry that lists it: a worker
 -- asked each server for it at most as often as its share says, and e times more where it failed, and never whether it
--- has one. Nothing else was sent to a server that is a group by itself but fronts of such requests
+-- has one. Nothing was sent to a server of chunks but fronts of such requests
 pub record GetsListed (w v : Storage) (e most : ℕ) (indexes : List (List ℕ)) (groups : List (List Location))
     : Type 0 where
   pub listings : List Listing
@@ -209,9 +211,9 @@ pub record GetsListed (w v : Storage) (e most : ℕ) (indexes : List (List ℕ))
   pub few : workers ≤ max 1 most
   pub shares : ℕ → List ℕ → ℕ
   pub together : (id : List ℕ) → sum_to (λ n. shares n id) workers ≤ listed_times listings id
-  pub gets : WorkersGroupsDialed
-      (λ n. AsksOnly (with_retries e (shares n)) (with_retries e (λ id. 0)) (IsGetAmong listings))
-      (λ n. Asks (with_retries e (shares n)) (with_retries e (λ id. 0))) workers groups ended v.dial.ended
+  pub gets : WorkersDialed
+      (λ n. AsksOnly (with_retries e (shares n)) (with_retries e (λ id. 0)) (IsGetAmong listings)) workers
+      (stores_of groups) ended v.dial.ended
 
 -- ---- the command
 

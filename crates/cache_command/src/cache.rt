@@ -18,11 +18,11 @@ ghost use Rattle.command_worlds.specs.Worlds.{world};
 ghost use Rattle.dsy_base.specs.Disk.{Disk, Output};
 
 use crate::filling::{Filling, fill_by, filling_of};
-use crate::naming::numbered_by;
 use chunk_store::id::DigestKind;
 use chunk_store::store::Store;
 use command_groups::chains::{close_chains, drop_chains, open_chains};
 use command_groups::groups::{close_groups, drop_groups, open_groups};
+use command_groups::numbers::numbered;
 use command_indexes::load::load_index;
 use command_outcome::outcome::Outcome;
 use command_steps::any_store::AnyStore;
@@ -169,13 +169,13 @@ where
     let (filling, filled) = fill_each(rt, alloc, files, dial, indexes, filling);
     let Filling {
         cached,
-        mut further,
-        refuser,
+        further,
+        ..
     } = filling;
     let (shelf, chain) = cached.into_parts();
     let groups = chain.into_stores();
     let named = words.stores.as_slice();
-    let answer = numbered_by(named, groups.as_slice(), &mut further, refuser, filled);
+    let answer = numbered(named, filled);
     give_shelf(files, words.cache.as_str(), shelf);
     close_chains(files, dial, further);
     close_groups(files, dial, groups);

@@ -3,4 +3,3 @@
 
 pub mod cache;
 mod filling;
-mod naming;

@@ -1,14 +1,14 @@
 -- What further workers have asked their stores for, and what stands in their rooms.
-use Rattle.std.proofs.Common.{◌≡◌, ℕ, zero, suc, ◌+◌, ◌<◌, ◌≤◌, List, [], ◌∷◌, map, length, slice_index_or, Option, Some, None, IfSome, All, refl, sym, subst, ap, ◌∙◌, inl, inr, arith}
+use Rattle.std.proofs.Common.{◌≡◌, ℕ, zero, suc, ◌+◌, ◌<◌, ◌≤◌, List, [], ◌∷◌, map, length, slice_index_or, Option, Some, IfSome, All, refl, sym, subst, ap, ◌∙◌, inl, inr, arith}
 use Rattle.std.specs.List.{AllZip}
-use Rattle.std.proofs.lemmas.List.{get_or-map, length-map}
+use Rattle.std.proofs.lemmas.List.{get_or-map}
 use Rattle.std.proofs.lemmas.List.Elements.{All-head, All-rest, AllZip-get_or, length_all_zip}
 use Rattle.chunk_dealing.proofs.Owners.{dealt_more, dealt_on, dealt_rises, dealt_still, few_calls, few_listed}
-use Rattle.chunk_dealing.specs.Dealing.{AsksOwn, ByNumber, dealt_times, lists_id, owner_of}
+use Rattle.chunk_dealing.specs.Dealing.{ByNumber, dealt_times, lists_id, owner_of}
 use Rattle.cache_fill.specs.Fetching.{Fetches, FetchesDealt, SomeHoldsEntry}
 use Rattle.cache_fill.specs.FillProgress.{RiseByOne, IsHired, TellsLost}
 use Rattle.cache_fill.proofs.EntryCalls.{want_is}
-use Rattle.cache_fill.specs.Filling.{FetchesAhead, RefusedAhead, entry_want, fill_fault_of}
+use Rattle.cache_fill.specs.Filling.{RefusedAhead, entry_want, fill_fault_of}
 use Rattle.cache_fill.specs.declared.fill.FillFault.{FillFault}
 use Rattle.cache_fill.specs.declared.want_reader.WantReader.{WantReader}
 use Rattle.caibx_codec.specs.Asks.{IsListedGet}
@@ -32,7 +32,7 @@ use Rattle.store_chain.specs.Queries.{query_of}
 use Rattle.store_chain.specs.Refusals.{Refuses}
 use Rattle.store_chain.specs.declared.query.Query.{Query}
 use Rattle.store_chain.specs.declared.refused.Refused.{Refused}
-use Rattle.verify_tool.proofs.Asked.{each_then, each_weaker}
+use Rattle.verify_tool.proofs.Asked.{each_then}
 
 -- ---- what the stores of a worker were asked for
 

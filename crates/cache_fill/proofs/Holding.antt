@@ -14,6 +14,7 @@ use Rattle.chunk_store.specs.Members.{maps_of, told_together}
 use Rattle.chunk_store.specs.declared.id.ChunkId.{ChunkId}
 use Rattle.chunk_store.specs.declared.shows.Shows.{Shows}
 use Rattle.chunk_store.specs.declared.shows.Shows.TheVariants as shows
+use Rattle.chunk_store.specs.declared.store.Giver.{Giver}
 use Rattle.chunk_store.specs.declared.store.Store.{Ghosts as StoreWords}
 use Rattle.dsy_base.specs.Counts.{Quiet, Rose}
 use Rattle.dsy_base.specs.Maps.{Map}
@@ -149,10 +150,10 @@ module _ (l : Listing) (i : ℕ) (id : ChunkId) (is_id : id.0 ≡ id_of l i) whe
   pub missing_never : (maps : List (Map (List ℕ))) → LacksAll (entry_want l i id) maps refused.Missing → SomeGives (kind_of l) (id_of l i) (size_of l i) maps → ⊥
   missing_never maps lacks gives = none_all (GivesEntry l i) maps (All-weaker (HoldsNone (entry_want l i id)) (λ m. GivesEntry l i m → ⊥) none_held maps lacks) gives
 
-  pub damaged_never : (s : ℕ) (x : Shows) (maps : List (Map (List ℕ))) → LacksAll (entry_want l i id) maps (refused.Damaged s x) → SomeGives (kind_of l) (id_of l i) (size_of l i) maps → ⊥
+  pub damaged_never : (s : Giver) (x : Shows) (maps : List (Map (List ℕ))) → LacksAll (entry_want l i id) maps (refused.Damaged s x) → SomeGives (kind_of l) (id_of l i) (size_of l i) maps → ⊥
   damaged_never s x maps lacks gives =
       none_first (GivesEntry l i) (HoldsNone (entry_want l i id)) (HoldsElse (entry_want l i id) x) (λ m. Gives (entry_want l i id) m → ⊥)
-      none_held (else_held x) never_given s maps lacks gives
+      none_held (else_held x) never_given s.number maps lacks.1 gives
 
 -- ---- what the cache gives where nothing fails
 

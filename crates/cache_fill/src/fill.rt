@@ -24,7 +24,7 @@ use cache_store::cached::Cached;
 use caibx_codec::index::Index;
 use chunk_store::id::ChunkId;
 use chunk_store::shows::Shows;
-use chunk_store::store::Store;
+use chunk_store::store::{Giver, Store};
 use dsy_base::folder::Folder;
 use image_slices::ahead::Ahead;
 use read_ahead::claims::Sharing;
@@ -47,7 +47,7 @@ pub enum FillFault {
     Damaged {
         entry: u64,
         id: ChunkId,
-        store: u32,
+        store: Giver,
         shows: Shows,
     },
     /// The first store that failed.

@@ -13,11 +13,11 @@ use Rattle.chunk_store.specs.declared.id.DigestKind.{DigestKind}
 use Rattle.chunk_store.specs.declared.store.Store.{Ghosts as StoreWords}
 use Rattle.command_outcome.specs.declared.outcome.Outcome.{Outcome}
 use Rattle.command_outcome.specs.declared.outcome.Outcome.TheVariants as ends
-use Rattle.command_groups.proofs.Lacked.{damaged_is, groups_lack, lacks_numbered}
+use Rattle.command_groups.proofs.Lacked.{groups_lack, have_lacked_in, lacks_numbered}
 use Rattle.command_groups.proofs.Standing.{GroupStands}
 use Rattle.command_groups.specs.Groups.{first_store, group_files}
 use Rattle.command_groups.specs.Lacking.{GroupsLack, LacksIn, group_said}
-use Rattle.command_groups.specs.Numbers.{IsNumbered, answer_of_stores, refused_of_stores}
+use Rattle.command_groups.specs.Numbers.{answer_of_stores, refused_of_stores}
 use Rattle.command_steps.specs.Sources.{storage_of}
 use Rattle.command_words.specs.declared.command.Location.{Location}
 use Rattle.command_worlds.specs.Steps.{◌>>=◌}
@@ -94,27 +94,24 @@ module _ {S : Type 0} (sure : Bool) (store : StoreWords S) (locations : S → Li
       let R : DigestKind → Type 0 = λ x. Refuses store.said store.faults store.may_lack_memory (chunk_at x l k) h.before d.stores r in
       groups_lack locations store.said store.faults retries (storage_of w) (storage_of v) groups store.may_lack_memory (chunk_at (kind_of l) l k) r h.before d.stores h.many located stand (subst R kind h.refused)
 
-  -- and by those of stores. Where all groups tell, the first store of each was active
-  module _ (active : List ℕ) (inside : (k : ℕ) → k < length groups → slice_index active k < length (slice_index_or groups k [])) (first : (fs : List (Map (List ℕ))) → map files c.stores ≡ map Some fs → (k : ℕ) → slice_index active k ≡ 0) where
-    puts_before : (k : ℕ) (id : ChunkId) (by_group r : Refused) → PutsUntil store l at n c d w.out v.out k id by_group → r ≡ refused_of_stores groups active by_group → IsNumbered groups by_group r → PutsBefore sure groups retries l at n w v k id r
-    puts_before k id by_group r h same is =
-        let L : List (Map (List ℕ)) → DigestKind → Type 0 = λ fs x. LacksAll (chunk_at x l k) (map chunks fs) by_group in
-        record {
-          covered = h.covered;
-          id_is = h.id_is;
-          puts = puts_first (bytes_before l at k) h.puts;
-          said = (by_group, is, lack k id by_group h);
-          lacks = where_told (λ fs. LacksIn (first_store groups) (chunk_at (kind_of l) l k) (map chunks fs) r)
-              (λ fs told holds. lacks_numbered groups active (first fs told) (chunk_at (kind_of l) l k) (map chunks fs) by_group r same (subst (L fs) kind (h.lacks (map chunks fs) holds)));
-        }
+  -- and by those of stores
+  puts_before : (k : ℕ) (id : ChunkId) (by_group : Refused) → PutsUntil store l at n c d w.out v.out k id by_group → PutsBefore sure groups retries l at n w v k id (refused_of_stores groups by_group)
+  puts_before k id by_group h =
+      let L : List (Map (List ℕ)) → DigestKind → Type 0 = λ fs x. LacksAll (chunk_at x l k) (map chunks fs) by_group in
+      record {
+        covered = h.covered;
+        id_is = h.id_is;
+        puts = puts_first (bytes_before l at k) h.puts;
+        said = have_lacked_in retries (chunk_at (kind_of l) l k) (storage_of w) (storage_of v) groups by_group (lack k id by_group h);
+        lacks = where_told (λ fs. LacksIn (first_store groups) (chunk_at (kind_of l) l k) (map chunks fs) (refused_of_stores groups by_group))
+            (λ fs told holds. lacks_numbered groups (chunk_at (kind_of l) l k) (map chunks fs) by_group (subst (L fs) kind (h.lacks (map chunks fs) holds)));
+      }
 
-    pub ends_between : (r : Result Unit Outcome) → EndsGiving store l at n c d w.out v.out r → EndsRange sure groups retries l at n w v (answer_of_stores groups active r)
-    ends_between (Ok u) h = puts_first n h
-    ends_between (Err (ends.Missing k id)) h = puts_before k id refused.Missing refused.Missing h refl refl
-    ends_between (Err (ends.Damaged k id s x)) h =
-        puts_before k id (refused.Damaged s x) (refused.Damaged (first_store groups s + slice_index active s) x) h refl
-        (damaged_is retries (chunk_at (kind_of l) l k) (storage_of w) (storage_of v) groups active inside s x (lack k id (refused.Damaged s x) h))
-    ends_between (Err (ends.StoreFault s)) h = (h.0, h.1, puts_before h.0 h.1 (refused.StoreFault s) (refused.StoreFault (first_store groups s)) h.2 refl refl)
-    ends_between (Err ends.OutFault) h = (h.0, (h.1.0, puts_first h.1.0 h.1.1))
-    ends_between (Err ends.Memory) h = ((h.0.0, puts_first h.0.0 h.0.1), h.1)
-    ends_between (Err other) h = absurd h
+  pub ends_between : (r : Result Unit Outcome) → EndsGiving store l at n c d w.out v.out r → EndsRange sure groups retries l at n w v (answer_of_stores groups r)
+  ends_between (Ok u) h = puts_first n h
+  ends_between (Err (ends.Missing k id)) h = puts_before k id refused.Missing h
+  ends_between (Err (ends.Damaged k id s x)) h = puts_before k id (refused.Damaged s x) h
+  ends_between (Err (ends.StoreFault s)) h = (h.0, h.1, puts_before h.0 h.1 (refused.StoreFault s) h.2)
+  ends_between (Err ends.OutFault) h = (h.0, (h.1.0, puts_first h.1.0 h.1.1))
+  ends_between (Err ends.Memory) h = ((h.0.0, puts_first h.0.0 h.0.1), h.1)
+  ends_between (Err other) h = absurd h

@@ -9,6 +9,7 @@ use Rattle.cat_command.proofs.Parts.{before_entry, covered_wider}
 use Rattle.cat_command.proofs.Pieces.{puts_none}
 use Rattle.cat_command.specs.Putting.{BreaksPutting, EndsGiving, EndsPutting, PutsGiven, PutsRange, PutsUntil, StopsAtEntry, bytes_before, chunk_at}
 use Rattle.chunk_store.specs.Said.{AskedOnce}
+use Rattle.chunk_store.specs.declared.store.Giver.{Giver}
 use Rattle.chunk_store.specs.declared.id.ChunkId.{ChunkId}
 use Rattle.chunk_store.specs.declared.id.DigestKind.{DigestKind}
 use Rattle.chunk_store.specs.declared.shows.Shows.{Shows}
@@ -200,7 +201,7 @@ module _ {S : Type 0} (store : StoreWords S) (at n : ℕ) (l : Listing) (c : Cha
     missing_until (refused.StoreFault s) k id is known f = absurd (cc)
     missing_until refused.Memory k id is known f = absurd (cc)
 
-    damaged_until : (r : Refused) (k : ℕ) (id : ChunkId) (s : ℕ) (x : Shows) → reads.Damaged k id s x ≡ read_refused_of entry w.id r → (r ≡ refused.Memory → ⊥) → MissFails store w r stop.before.chain now.chain → Until k id (refused.Damaged s x)
+    damaged_until : (r : Refused) (k : ℕ) (id : ChunkId) (s : Giver) (x : Shows) → reads.Damaged k id s x ≡ read_refused_of entry w.id r → (r ≡ refused.Memory → ⊥) → MissFails store w r stop.before.chain now.chain → Until k id (refused.Damaged s x)
     damaged_until refused.Missing k id s x is known f = absurd (cc)
     damaged_until (refused.Damaged u y) k id s x is known f =
         let at_entry : entry ≡ k = cc in
@@ -209,7 +210,7 @@ module _ {S : Type 0} (store : StoreWords S) (at n : ℕ) (l : Listing) (c : Cha
         let shown : y ≡ x = cc in
         let P : ℕ → Type 0 = λ e. Until e id (refused.Damaged s x) in
         let Q : ChunkId → Type 0 = λ i. Until entry i (refused.Damaged s x) in
-        let R : ℕ → Type 0 = λ t. Until entry w.id (refused.Damaged t x) in
+        let R : Giver → Type 0 = λ t. Until entry w.id (refused.Damaged t x) in
         let T : Shows → Type 0 = λ z. Until entry w.id (refused.Damaged u z) in
         subst P at_entry (subst Q named (subst R number (subst T shown (until (refused.Damaged u y) f known))))
     damaged_until (refused.StoreFault u) k id s x is known f = absurd (cc)

@@ -65,7 +65,7 @@ fn put_stored<F: Files, D: Dial, O: Sink>(
     let chain = Chain::with_kind(index.kind(), opened);
     let (chain, put) = put_from(alloc, index, chain, range, out);
     let asked = chain.into_stores();
-    let answer = numbered(groups, asked.as_slice(), put);
+    let answer = numbered(groups, put);
     close_groups(files, dial, asked);
     answer
 }

@@ -6,6 +6,7 @@ use crate::compare::{ok, same};
 use crate::digests::{ABC, ABC_256, NOTHING};
 use chunk_store::id::{ChunkId, DigestKind};
 use chunk_store::shows::Shows;
+use chunk_store::store::Giver;
 use dsy_base::fault::IoFault;
 use std::alloc::Global;
 use std::process::Abort;
@@ -91,7 +92,8 @@ fn a_failed_store_is_told_where_none_gives(rt: HostRuntime) {
     obtains(&rt, alloc, Held::Fault, Held::NoMemory, Some(3), memory);
 }
 
-fn damaged(store: u32, shows: Shows) -> Result<usize, Refused> {
+fn damaged(number: u32, shows: Shows) -> Result<usize, Refused> {
+    let store = Giver { number, member: 0 };
     Err(Refused::Damaged { store, shows })
 }
 

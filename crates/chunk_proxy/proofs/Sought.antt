@@ -145,7 +145,7 @@ module _ {F S : Type 0} (files : F → Option (Map (List ℕ))) (place : F → L
         go (Err refused.Missing) fills (inl q) tells = absurd (let e = q.answer in cc)
         go (Err refused.Missing) fills (inr q) tells = by_none refused.Missing t.out q (all_lack kind id maps (obtains (Err refused.Missing) t.out q)) tells
         go (Err (refused.Damaged s x)) fills (inl q) tells = absurd (let e = q.answer in cc)
-        go (Err (refused.Damaged s x)) fills (inr q) tells = by_none (refused.Damaged s x) t.out q (all_damaged kind id x s maps (obtains (Err (refused.Damaged s x)) t.out q)) tells
+        go (Err (refused.Damaged s x)) fills (inr q) tells = by_none (refused.Damaged s x) t.out q (all_damaged kind id x s.number maps (obtains (Err (refused.Damaged s x)) t.out q).1) tells
         go (Err (refused.StoreFault s)) fills (inl q) tells = absurd (let e = q.answer in cc)
         go (Err (refused.StoreFault s)) fills (inr q) tells = absurd (obtains (Err (refused.StoreFault s)) t.out q)
         go (Err refused.Memory) fills ends tells = absurd tells

@@ -1,5 +1,5 @@
 -- What can't be where nothing fails: that a source which gives a chunk was passed.
-use Rattle.std.proofs.Common.{◌≡◌, ◌≢◌, ℕ, zero, suc, List, [], ◌∷◌, Some, sym, subst, inl, inr, ◌⊎◌, arith, slice_index, refl, Option, None, IfSome}
+use Rattle.std.proofs.Common.{◌≡◌, ◌≢◌, ℕ, List, Some, sym, subst, inl, inr, arith, slice_index, refl, Option, None, IfSome}
 use Rattle.std.proofs.lemmas.List.Elements.{All-weaker}
 use Rattle.std.specs.List.{All, Any}
 use Rattle.cache_store.specs.Giving.{SomeGives}

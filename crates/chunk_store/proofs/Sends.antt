@@ -3,7 +3,7 @@ use Rattle.std.proofs.Common.{List, [], ◌++◌, Some, None, refl, sym, ◌∙�
 use Rattle.std.proofs.lemmas.List.{append_assoc, append-nil}
 use Rattle.std.proofs.lemmas.List.Elements.{All-append, All-nil, All-weaker}
 use Rattle.std.specs.Prelude.{Option, ℕ}
-use Rattle.chunk_store.specs.Asks.{AddsOnly, Ask, IsFrontOf, Sends, Sent}
+use Rattle.chunk_store.specs.Asks.{AddsOnly, Ask, IsFrontOf, Requests, AddsRequests, Sends, Sent}
 
 -- nothing came behind
 pub adds_none : {X : Type 0} (Q : X → Type 0) (o : Option (List X)) → AddsOnly Q o o
@@ -23,12 +23,12 @@ adds_weaker P Q more (Some old) n adds = (adds.0, adds.1, All-weaker P Q more ad
 adds_weaker P Q more None n adds = adds
 
 -- nothing was sent
-pub sends_still : (P : Ask → Type 0) (s : Sent) → Sends P s s
-sends_still P s = record { spells = refl; ended = adds_none (IsFrontOf P s.spells) s.ended }
+pub requests_still : (P : Ask → Type 0) (s : Requests) → AddsRequests P s s
+requests_still P s = record { spells = refl; ended = adds_none (IsFrontOf P s.spells) s.ended }
 
 -- fronts were sent twice
-pub sends_on : (P : Ask → Type 0) (r s t : Sent) → Sends P r s → Sends P s t → Sends P r t
-sends_on P r s t first then =
+requests_on : (P : Ask → Type 0) (r s t : Requests) → AddsRequests P r s → AddsRequests P s t → AddsRequests P r t
+requests_on P r s t first then =
     let K : (Ask → List ℕ) → Type 0 = λ spells. AddsOnly (IsFrontOf P spells) s.ended t.ended in
     record {
       spells = then.spells ∙ first.spells;
@@ -38,9 +38,19 @@ sends_on P r s t first then =
 front_weaker : (P Q : Ask → Type 0) → ((a : Ask) → P a → Q a) → (spells : Ask → List ℕ) (b : List ℕ) → IsFrontOf P spells b → IsFrontOf Q spells b
 front_weaker P Q more spells b h = record { ask = h.ask; asked = more h.ask h.asked; size = h.size; inside = h.inside; front = h.front }
 
--- what may be asked is more
-pub sends_weaker : (P Q : Ask → Type 0) → ((a : Ask) → P a → Q a) → (s t : Sent) → Sends P s t → Sends Q s t
-sends_weaker P Q more s t h = record {
+requests_weaker : (P Q : Ask → Type 0) → ((a : Ask) → P a → Q a) → (s t : Requests) → AddsRequests P s t → AddsRequests Q s t
+requests_weaker P Q more s t h = record {
   spells = h.spells;
   ended = adds_weaker (IsFrontOf P s.spells) (IsFrontOf Q s.spells) (front_weaker P Q more s.spells) s.ended t.ended h.ended;
 }
+
+-- the same of each store
+pub sends_still : (P : Ask → Type 0) (s : Sent) → Sends P s s
+sends_still P s = λ n. requests_still P (s n)
+
+pub sends_on : (P : Ask → Type 0) (r s t : Sent) → Sends P r s → Sends P s t → Sends P r t
+sends_on P r s t first then = λ n. requests_on P (r n) (s n) (t n) (first n) (then n)
+
+-- what may be asked is more
+pub sends_weaker : (P Q : Ask → Type 0) → ((a : Ask) → P a → Q a) → (s t : Sent) → Sends P s t → Sends Q s t
+sends_weaker P Q more s t h = λ n. requests_weaker P Q more (s n) (t n) (h n)

@@ -14,6 +14,10 @@ pub record Said : Type 1 where
   pub longer : List ℕ → ℕ → Type 0
   -- it has taken these bytes under this id
   pub taken : List ℕ → List ℕ → Type 0
+  -- the store of this number in a group has shown these bytes under this id, or more than this many. A store that is no
+  -- group has the number 0
+  pub shown_by : ℕ → List ℕ → List ℕ → Type 0
+  pub longer_by : ℕ → List ℕ → ℕ → Type 0
 
 -- what was said of this id before is said still
 pub record KeepsOf (old new : Said) (id : List ℕ) : Type 0 where
@@ -21,13 +25,28 @@ pub record KeepsOf (old new : Said) (id : List ℕ) : Type 0 where
   pub shown : (b : List ℕ) → old.shown id b → new.shown id b
   pub longer : (n : ℕ) → old.longer id n → new.longer id n
   pub taken : (b : List ℕ) → old.taken id b → new.taken id b
+  pub shown_by : (k : ℕ) (b : List ℕ) → old.shown_by k id b → new.shown_by k id b
+  pub longer_by : (k n : ℕ) → old.longer_by k id n → new.longer_by k id n
 
--- a map denies what it doesn't hold, and has shown and taken what it holds
+-- what a store that is no group has said, from what it has said without a number
+abbrev pub alone : Said → Said
+alone s = record {
+  denied = s.denied;
+  shown = s.shown;
+  longer = s.longer;
+  taken = s.taken;
+  shown_by = λ k id b. (k ≡ 0) × s.shown id b;
+  longer_by = λ k id n. (k ≡ 0) × s.longer id n;
+}
+
+-- a map denies what it doesn't hold, and has shown and taken what it holds. It is the first of those that answer for it
 pub record SaysMap (s : Said) (m : Map (List ℕ)) : Type 0 where
   pub denied : (id : List ℕ) → s.denied id ↔ (m id ≡ None)
   pub shown : (id b : List ℕ) → s.shown id b ↔ (m id ≡ Some b)
   pub longer : (id : List ℕ) (n : ℕ) → s.longer id n ↔ ((b : List ℕ) × (m id ≡ Some b) × (n < length b))
   pub taken : (id b : List ℕ) → s.taken id b ↔ (m id ≡ Some b)
+  pub shown_by : (k : ℕ) (id b : List ℕ) → s.shown_by k id b → k ≡ 0
+  pub longer_by : (k : ℕ) (id : List ℕ) (n : ℕ) → s.longer_by k id n → k ≡ 0
 
 -- what was said is so of one of these maps: it doesn't hold what was denied, and holds what was shown
 pub record SaysAmong (s : Said) (maps : List (Map (List ℕ))) : Type 0 where
@@ -49,6 +68,8 @@ said_by holds = record {
   shown = λ id b. IfSome holds (λ m. m id ≡ Some b);
   longer = λ id n. IfSome holds (λ m. (b : List ℕ) × (m id ≡ Some b) × (n < length b));
   taken = λ id b. IfSome holds (λ m. m id ≡ Some b);
+  shown_by = λ k id b. (k ≡ 0) × IfSome holds (λ m. m id ≡ Some b);
+  longer_by = λ k id n. (k ≡ 0) × IfSome holds (λ m. (b : List ℕ) × (m id ≡ Some b) × (n < length b));
 }
 
 -- `said_by` says of a map exactly what it holds
@@ -59,6 +80,19 @@ says_map (Some m) = record {
   shown = λ id b. (λ h. h, λ h. h);
   longer = λ id n. (λ h. h, λ h. h);
   taken = λ id b. (λ h. h, λ h. h);
+  shown_by = λ k id b h. h.0;
+  longer_by = λ k id n h. h.0;
+}
+
+-- so it is of what a map says that is no group
+pub says_alone : (s : Said) (m : Map (List ℕ)) → SaysMap s m → SaysMap (alone s) m
+says_alone s m says = record {
+  denied = says.denied;
+  shown = says.shown;
+  longer = says.longer;
+  taken = says.taken;
+  shown_by = λ k id b h. h.0;
+  longer_by = λ k id n h. h.0;
 }
 
 -- ---- a store that tells what it holds, and answers alone

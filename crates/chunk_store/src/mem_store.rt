@@ -100,6 +100,10 @@ impl Store for MemStore {
         }
     }
 
+    fn giver(&self) -> usize {
+        0
+    }
+
     fn has(&mut self, id: &ChunkId) -> Result<bool, IoFault> {
         Ok(self.chunks.contains_key(id))
     }

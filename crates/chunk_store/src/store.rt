@@ -24,6 +24,14 @@ pub enum GetFault {
     Memory,
 }
 
+/// Which of several stores has shown something: its number among them, and the number of the one in its group that
+/// answered, or 0 where it is no group.
+#[derive(Clone, Copy, Debug, PartialEq, Eq)]
+pub struct Giver {
+    pub number: u32,
+    pub member: usize,
+}
+
 /// A store of chunks by their ids. It may hold any bytes under an id: who asks names what it got.
 pub trait Store: Drop {
     /// What it holds under each id, where this store tells it. No call changes whether it does.
@@ -36,10 +44,17 @@ pub trait Store: Drop {
     /// The files of the folder that its chunks lie in, where it has one and tells them.
     ghost folder: { Self → Option (Map (List ℕ)) } = { λ _. None };
 
+    /// The same for each store of a group, in their order. One that is no group has none. No call changes them.
+    ghost folders: { Self → List (Option (Map (List ℕ))) } = { λ _. [] };
+
     /// What it has denied, shown and taken.
     ghost said: { Self → Said };
 
-    /// How it spells what it is asked, and what it has sent, where it asks a server.
+    /// The number in its group of the store that answered most recently, or 0 where it is no group.
+    ghost giver: { Self → ℕ } = { λ _. 0 };
+
+    /// How it spells what it is asked, and what it has sent, where it asks a server; and the same for each store of a
+    /// group, by its number.
     ghost sent: { Self → Sent } = { λ _. sends_nothing };
 
     /// How often it was asked for the chunk of each id, as far as it knows.
@@ -74,17 +89,25 @@ pub trait Store: Drop {
         ensures ok { IfOk result (λ n. (n ≤ length out.new) × (said self.new).shown id.now.0 (take n out.new)) }
         ensures absent { result ≡ Err GetFault.Missing → (said self.new).denied id.now.0 }
         ensures longer { result ≡ Err GetFault.Longer → (said self.new).longer id.now.0 (length out.new) }
+        ensures shown_by { IfOk result (λ n. (said self.new).shown_by (giver self.new) id.now.0 (take n out.new)) }
+        ensures longer_by { result ≡ Err GetFault.Longer
+            → (said self.new).longer_by (giver self.new) id.now.0 (length out.new) }
         ensures only { result ≡ Err GetFault.Memory → IsTrue may_lack_memory }
 
         ensures kept { holds self.new ≡ holds self.old }
         ensures members { members self.new ≡ members self.old }
         ensures files { folder self.new ≡ folder self.old }
+        ensures folders { folders self.new ≡ folders self.old }
         ensures place { place self.new ≡ place self.old }
         ensures said { (q : List ℕ) → KeepsOf (said self.old) (said self.new) q }
         ensures sends { Sends (λ a. a ≡ Get id.now.0) (sent self.old) (sent self.new) }
         ensures asks { AskedOnce (asked self.old) (asked self.new) id.now.0 }
         ensures queries { queried self.new ≡ queried self.old }
         ensures faults { CountsFaults GetFault.Failed GetFault.Memory (faults self.old) (faults self.new) result };
+
+    /// The number in its group of the store that answered most recently, or 0 where it is no group.
+    fn giver(&self) -> usize
+        ensures value { result ≡ giver self.now };
 
     /// Whether something is held under the id.
     fn has(&mut self, id: &ChunkId) -> Result<bool, IoFault>
@@ -95,6 +118,7 @@ pub trait Store: Drop {
         ensures kept { holds self.new ≡ holds self.old }
         ensures members { members self.new ≡ members self.old }
         ensures files { folder self.new ≡ folder self.old }
+        ensures folders { folders self.new ≡ folders self.old }
         ensures place { place self.new ≡ place self.old }
         ensures said { (q : List ℕ) → KeepsOf (said self.old) (said self.new) q }
         ensures sends { Sends (λ a. a ≡ Has id.now.0) (sent self.old) (sent self.new) }

@@ -1,8 +1,6 @@
 -- Groups that were opened for the same words from the same folders hold the same chunks, as do those who answer for them.
 use Rattle.std.proofs.Common.{◌≡◌, ◌∙◌, Bool, false, List, [], ◌∷◌, map, length, is_some, Option, Some, None, IfSome, IsTrue, refl, sym, ap, ℕ}
 use Rattle.std.specs.List.{All}
-use Rattle.std.specs.Option.{option_map}
-use Rattle.chunk_store.specs.Folders.{chunks}
 use Rattle.command_groups.proofs.Seen.{all_hold, all_members, held_by, members_by}
 use Rattle.command_groups.proofs.Stand.{many_stores}
 use Rattle.command_groups.specs.Opened.{files_in, locations_in, told_chunks, told_members}

@@ -1,23 +1,24 @@
 -- How the servers of groups that were fresh were asked, once they are given back.
-use Rattle.std.proofs.Common.{◌≡◌, ◌∙◌, ◌+◌, ◌*◌, ◌<◌, ◌≤◌, ℕ, suc, List, [], ◌∷◌, length, map, max, slice_index_or, Option, Some, None, IfSome, refl, sym, ap, subst, arith}
+use Rattle.std.proofs.Common.{◌≡◌, ◌∙◌, ◌+◌, ◌*◌, ◌<◌, ◌≤◌, ◌++◌, ℕ, suc, List, [], ◌∷◌, length, map, max, slice_index_or, Option, Some, None, IfSome, refl, sym, ap, subst, arith}
 use Rattle.std.proofs.Math.Nat.{div-eq_of_lt}
 use Rattle.std.proofs.lemmas.List.Elements.{All-head, All-tail}
 use Rattle.std.specs.List.{All, AllByRecursion, AllZip, fold}
-use Rattle.chunk_store.specs.Asks.{Ask, Sends}
+use Rattle.chunk_store.specs.Asks.{Ask, AddsRequests, Sends}
 use Rattle.command_groups.proofs.Stand.{many_stores}
-use Rattle.command_groups.specs.Asking.{GroupDialed, GroupsAsked, GroupsDialed, WorkersGroupsDialed, with_retries}
-use Rattle.command_groups.specs.Opened.{AreUnused, locations_in, with_group}
+use Rattle.command_groups.specs.Asking.{GroupsAsked, with_retries}
+use Rattle.command_groups.specs.Groups.{stores_of}
+use Rattle.command_groups.specs.Opened.{AreUnused, all_locations, locations_in, with_group}
 use Rattle.command_steps.proofs.AskedOnly.{each_asked_only, each_sent}
-use Rattle.command_steps.proofs.Asking.{IsDialed, each_asked, each_dialed, each_got, none_dialed}
-use Rattle.command_steps.specs.AnyStores.{IsUnused, asked_in, location_in, source_files, source_sent, with_those}
-use Rattle.command_steps.specs.Asking.{Asks, AsksFew, AsksOnly, SendsFronts}
+use Rattle.command_steps.proofs.Asking.{each_got}
+use Rattle.command_steps.specs.AnyStores.{IsUnused, asked_in, source_sent, with_those}
+use Rattle.command_steps.specs.Asking.{AsksFew, AsksOnly, EachDialed, SendsFronts, WorkersDialed}
 use Rattle.command_steps.specs.Sources.{Storage}
 use Rattle.command_steps.specs.Turns.{GivenInTurn}
 use Rattle.command_steps.specs.declared.any_store.AnyStore.{AnyStore}
 use Rattle.command_steps.specs.declared.any_store.AnyStore.TheVariants as stores
 use Rattle.command_words.specs.declared.command.Location.{Location}
-use Rattle.dsy_base.specs.Links.{DialState, Traffic}
-use Rattle.dsy_base.specs.Maps.{Map}
+use Rattle.command_words.specs.declared.command.Location.TheVariants as locations
+use Rattle.dsy_base.specs.Links.{DialState, Traffic, with_all}
 use Rattle.http_read.specs.Asks.{Server, times_asked}
 use Rattle.http_wire.specs.declared.reply.Method.{Method}
 use Rattle.http_wire.specs.declared.reply.Method.TheVariants as method
@@ -86,29 +87,35 @@ module _ {L D K : Type 0} (m : Method) (state : D → DialState) where
 
 -- ---- group by group
 
+-- the connections of some stores ended, and then those of the stores behind them
+dialed_behind : (P : Server → List Traffic → Type 0) (first rest : List Location) (old mid new : Option (List Traffic)) → EachDialed P first old mid → EachDialed P rest mid new → EachDialed P (first ++ rest) old new
+dialed_behind P [] rest old mid new none then = subst (λ o. EachDialed P rest o new) none then
+dialed_behind P (locations.Folder q ∷ first) rest old mid new h then = dialed_behind P first rest old mid new h then
+dialed_behind P (locations.Http host port prefix ∷ first) rest old mid new h then = (h.0, h.1, dialed_behind P first rest (with_all old h.0) mid new h.2 then)
+
 module _ {L D K : Type 0} (place : L → List ℕ) (state : D → DialState) where
   abbrev after : Grouped (AnyStore L D K) → Option (List Traffic) → Option (List Traffic)
   after g old = with_group state old g
 
   -- what holds of each group holds of all, one after the other
-  groups_dialed : (P Q : Server → List Traffic → Type 0) (R : Grouped (AnyStore L D K) → (Grouped (AnyStore L D K)) → Type 0) → ((g h : Grouped (AnyStore L D K)) (old : Option (List Traffic)) → R g h → GroupDialed P Q (locations_in place h) old (after h old)) → (xs ys : List (Grouped (AnyStore L D K))) (old : Option (List Traffic))
-      → AllZip R xs ys → GroupsDialed P Q (map (locations_in place) ys) old (fold (with_group state) old ys)
-  groups_dialed P Q R one [] [] old h = refl
-  groups_dialed P Q R one [] (y ∷ ys) old h = absurd h
-  groups_dialed P Q R one (x ∷ xs) [] old h = absurd h
-  groups_dialed P Q R one (x ∷ xs) (y ∷ ys) old h = (after y old, one x y old h.0, groups_dialed P Q R one xs ys (after y old) h.1)
+  groups_dialed : (P : Server → List Traffic → Type 0) (R : Grouped (AnyStore L D K) → (Grouped (AnyStore L D K)) → Type 0) → ((g h : Grouped (AnyStore L D K)) (old : Option (List Traffic)) → R g h → EachDialed P (locations_in place h) old (after h old)) → (xs ys : List (Grouped (AnyStore L D K))) (old : Option (List Traffic))
+      → AllZip R xs ys → EachDialed P (all_locations place ys) old (fold (with_group state) old ys)
+  groups_dialed P R one [] [] old h = refl
+  groups_dialed P R one [] (y ∷ ys) old h = absurd h
+  groups_dialed P R one (x ∷ xs) [] old h = absurd h
+  groups_dialed P R one (x ∷ xs) (y ∷ ys) old h = dialed_behind P (locations_in place y) (all_locations place ys) old (after y old) (fold (with_group state) (after y old) ys) (one x y old h.0) (groups_dialed P R one xs ys (after y old) h.1)
 
-  located_dialed : (P Q : Server → List Traffic → Type 0) (ys : List (Grouped (AnyStore L D K))) (groups : List (List Location)) (old new : Option (List Traffic)) → map (locations_in place) ys ≡ groups → new ≡ fold (with_group state) old ys
-      → GroupsDialed P Q (map (locations_in place) ys) old (fold (with_group state) old ys) → GroupsDialed P Q groups old new
-  located_dialed P Q ys groups old new located ended h = subst (λ l. GroupsDialed P Q l old new) located (subst (λ o. GroupsDialed P Q (map (locations_in place) ys) old o) (sym ended) h)
+  located_dialed : (P : Server → List Traffic → Type 0) (ys : List (Grouped (AnyStore L D K))) (groups : List (List Location)) (old new : Option (List Traffic)) → map (locations_in place) ys ≡ groups → new ≡ fold (with_group state) old ys
+      → EachDialed P (all_locations place ys) old (fold (with_group state) old ys) → EachDialed P (stores_of groups) old new
+  located_dialed P ys groups old new located ended h = subst (λ l. EachDialed P (stores_of l) old new) located (subst (λ o. EachDialed P (all_locations place ys) old o) (sym ended) h)
 
-  module _ (files : L → Option (Map (List ℕ))) (e : ℕ) where
+  module _ (e : ℕ) where
     -- how often a group was asked more than before, and what it was sent
     abbrev Few : Method → (List ℕ → ℕ) → (Grouped (AnyStore L D K)) → (Grouped (AnyStore L D K)) → Type 0
     Few m n a b = (q : List ℕ) → group_count (asked_in m state) b q ≤ group_count (asked_in m state) a q + n q
 
     abbrev Sent : (Ask → Type 0) → (Grouped (AnyStore L D K)) → (Grouped (AnyStore L D K)) → Type 0
-    Sent P a b = Sends P (sent_of (source_sent state) (source_files files) a.stores) (sent_of (source_sent state) (source_files files) b.stores)
+    Sent P a b = Sends P (sent_of (source_sent state) a.stores) (sent_of (source_sent state) b.stores)
 
     -- it was unused before, and stands where it stood, with as many retries
     abbrev Lent : Grouped (AnyStore L D K) → (Grouped (AnyStore L D K)) → Type 0
@@ -121,45 +128,19 @@ module _ {L D K : Type 0} (place : L → List ℕ) (state : D → DialState) whe
 
     -- ---- one group
 
-    one_asked : (gets heads : List ℕ → ℕ) (P : Ask → Type 0) (xs ys : List (AnyStore L D K)) (old : Option (List Traffic)) → length xs ≡ length ys → All (IsUnused state) xs
-        → AllZip (λ a b. (q : List ℕ) → asked_in method.Get state b q ≤ asked_in method.Get state a q + gets q) xs ys
-        → AllZip (λ a b. (q : List ℕ) → asked_in method.Head state b q ≤ asked_in method.Head state a q + heads q) xs ys
-        → Sends P (sent_of (source_sent state) (source_files files) xs) (sent_of (source_sent state) (source_files files) ys)
-        → GroupDialed (AsksOnly gets heads P) (Asks gets heads) (map (location_in place) ys) old (fold (with_those state) old ys)
-    one_asked gets heads P [] [] old many unused get head sends = refl
-    one_asked gets heads P [] (y ∷ ys) old many unused get head sends = absurd get
-    one_asked gets heads P (x ∷ xs) [] old many unused get head sends = absurd get
-    one_asked gets heads P (x ∷ []) (y ∷ b ∷ ys) old many unused get head sends = absurd get.1
-    one_asked gets heads P (x ∷ a ∷ xs) (y ∷ []) old many unused get head sends = absurd get.1
-    one_asked gets heads P (x ∷ []) (y ∷ []) old many unused get head sends =
-        each_asked_only place state gets heads P (x ∷ []) (y ∷ []) (location_in place y ∷ []) old (fold (with_those state) old (y ∷ [])) unused get head (sends, tt) refl refl
-    one_asked gets heads P (x ∷ a ∷ xs) (y ∷ b ∷ ys) old many unused get head sends =
-        each_asked place state gets heads (x ∷ a ∷ xs) (y ∷ b ∷ ys) (map (location_in place) (y ∷ b ∷ ys)) old (fold (with_those state) old (y ∷ b ∷ ys)) unused get head refl refl
+    -- a store that is no group sends the same, whatever the number
+    one_sent : (P : Ask → Type 0) (x y : AnyStore L D K) → AddsRequests P (source_sent state x 0) (source_sent state y 0) → Sends P (source_sent state x) (source_sent state y)
+    one_sent P (stores.Folder l) (stores.Folder k) sends n = sends
+    one_sent P (stores.Folder l) (stores.Http r) sends n = sends
+    one_sent P (stores.Http r) (stores.Folder k) sends n = sends
+    one_sent P (stores.Http r) (stores.Http t) sends n = sends
 
-    one_got : (gets : List ℕ → ℕ) (xs ys : List (AnyStore L D K)) (old : Option (List Traffic)) → All (IsUnused state) xs
-        → AllZip (λ a b. (q : List ℕ) → asked_in method.Get state b q ≤ asked_in method.Get state a q + gets q) xs ys
-        → GroupDialed (AsksFew method.Get gets) (AsksFew method.Get gets) (map (location_in place) ys) old (fold (with_those state) old ys)
-    one_got gets xs [] old unused get = refl
-    one_got gets xs (y ∷ []) old unused get = each_got place state gets xs (y ∷ []) (location_in place y ∷ []) old (fold (with_those state) old (y ∷ [])) unused get refl refl
-    one_got gets xs (y ∷ b ∷ ys) old unused get = each_got place state gets xs (y ∷ b ∷ ys) (map (location_in place) (y ∷ b ∷ ys)) old (fold (with_those state) old (y ∷ b ∷ ys)) unused get refl refl
-
-    one_sent : (P : Ask → Type 0) (xs ys : List (AnyStore L D K)) (old : Option (List Traffic)) → length xs ≡ length ys → All (IsUnused state) xs
-        → Sends P (sent_of (source_sent state) (source_files files) xs) (sent_of (source_sent state) (source_files files) ys)
-        → GroupDialed (SendsFronts P) (λ s ended. Unit {0}) (map (location_in place) ys) old (fold (with_those state) old ys)
-    one_sent P [] [] old many unused sends = refl
-    one_sent P [] (y ∷ ys) old many unused sends = absurd (cc)
-    one_sent P (x ∷ xs) [] old many unused sends = absurd (cc)
-    one_sent P (x ∷ []) (y ∷ b ∷ ys) old many unused sends = absurd (cc)
-    one_sent P (x ∷ a ∷ xs) (y ∷ []) old many unused sends = absurd (cc)
-    one_sent P (x ∷ []) (y ∷ []) old many unused sends = each_sent place state P (x ∷ []) (y ∷ []) (location_in place y ∷ []) old (fold (with_those state) old (y ∷ [])) unused (sends, tt) refl refl
-    one_sent P (x ∷ a ∷ xs) (y ∷ b ∷ ys) old many unused sends =
-        each_dialed place state (λ s ended. Unit {0}) (y ∷ b ∷ ys) old (fold (with_those state) old (y ∷ b ∷ ys)) refl (λ k d lt. any_dialed (slice_index_or (y ∷ b ∷ ys) k d)) where
-          any_dialed : (s : AnyStore L D K) → IsDialed state (λ s ended. Unit {0}) s
-          any_dialed (stores.Folder l) = tt
-          any_dialed (stores.Http r) = go (state r.dial).ended where
-            go : (o : Option (List Traffic)) → IfSome o (λ ended. Unit {0})
-            go None = tt
-            go (Some ended) = tt
+    -- what a group has sent, each of its stores has
+    stores_sent : (P : Ask → Type 0) (xs ys : List (AnyStore L D K)) → length xs ≡ length ys → Sends P (sent_of (source_sent state) xs) (sent_of (source_sent state) ys) → AllZip (λ a b. Sends P (source_sent state a) (source_sent state b)) xs ys
+    stores_sent P [] [] many sends = tt
+    stores_sent P [] (y ∷ ys) many sends = absurd (cc)
+    stores_sent P (x ∷ xs) [] many sends = absurd (cc)
+    stores_sent P (x ∷ xs) (y ∷ ys) many sends = (one_sent P x y (sends 0), stores_sent P xs ys (cc) (λ n. sends (suc n)))
 
     -- ---- groups that were unused, and given back after they were asked so
 
@@ -168,58 +149,50 @@ module _ {L D K : Type 0} (place : L → List ℕ) (state : D → DialState) whe
         → map (locations_in place) ys ≡ groups → new ≡ fold (with_group state) old ys → GroupsAsked e gets heads P groups old new
     groups_asked gets heads P xs ys groups old new unused tries stands get head sends located ended =
         let A = AsksOnly (with_retries e gets) (with_retries e heads) P in
-        let B = Asks (with_retries e gets) (with_retries e heads) in
         let R : Grouped (AnyStore L D K) → (Grouped (AnyStore L D K)) → Type 0 = λ a b. Lent a b × (Few method.Get gets a b × (Few method.Head heads a b × Sent P a b)) in
-        located_dialed A B ys groups old new located ended
-        (groups_dialed A B R
+        located_dialed A ys groups old new located ended
+        (groups_dialed A R
         (λ g h o r. (let many = sym (many_stores place h g r.0.1.1) in
-        one_asked (with_retries e gets) (with_retries e heads) P g.stores h.stores o many r.0.0 (group_few method.Get state e gets g h r.0.1.0 r.0.0 many r.1.0) (group_few method.Head state e heads g h r.0.1.0 r.0.0 many r.1.1.0) r.1.1.1)) xs ys old
+        each_asked_only place state (with_retries e gets) (with_retries e heads) P g.stores h.stores (locations_in place h) o (fold (with_those state) o h.stores) r.0.0 (group_few method.Get state e gets g h r.0.1.0 r.0.0 many r.1.0) (group_few method.Head state e heads g h r.0.1.0 r.0.0 many r.1.1.0) (stores_sent P g.stores h.stores many r.1.1.1) refl refl)) xs ys old
         (both_zip Lent (λ a b. Few method.Get gets a b × (Few method.Head heads a b × Sent P a b)) xs ys (lent xs ys unused tries stands)
         (both_zip (Few method.Get gets) (λ a b. Few method.Head heads a b × Sent P a b) xs ys get (both_zip (Few method.Head heads) (Sent P) xs ys head sends))))
 
     -- the same of chunks alone
     pub groups_got : (gets : List ℕ → ℕ) (xs ys : List (Grouped (AnyStore L D K))) (groups : List (List Location)) (old new : Option (List Traffic)) → All (AreUnused state) xs → All (λ g. g.retries ≡ e) ys → map (locations_in place) ys ≡ map (locations_in place) xs
         → AllZip (Few method.Get gets) xs ys → map (locations_in place) ys ≡ groups → new ≡ fold (with_group state) old ys
-        → GroupsDialed (AsksFew method.Get (with_retries e gets)) (AsksFew method.Get (with_retries e gets)) groups old new
+        → EachDialed (AsksFew method.Get (with_retries e gets)) (stores_of groups) old new
     groups_got gets xs ys groups old new unused tries stands get located ended =
         let A = AsksFew method.Get (with_retries e gets) in
-        located_dialed A A ys groups old new located ended
-        (groups_dialed A A (λ a b. Lent a b × Few method.Get gets a b)
-        (λ g h o r. (let many = sym (many_stores place h g r.0.1.1) in one_got (with_retries e gets) g.stores h.stores o r.0.0 (group_few method.Get state e gets g h r.0.1.0 r.0.0 many r.1))) xs ys old
+        located_dialed A ys groups old new located ended
+        (groups_dialed A (λ a b. Lent a b × Few method.Get gets a b)
+        (λ g h o r. (let many = sym (many_stores place h g r.0.1.1) in each_got place state (with_retries e gets) g.stores h.stores (locations_in place h) o (fold (with_those state) o h.stores) r.0.0 (group_few method.Get state e gets g h r.0.1.0 r.0.0 many r.1) refl refl)) xs ys old
         (both_zip Lent (Few method.Get gets) xs ys (lent xs ys unused tries stands) get))
 
-    -- and of what those of groups of one store were sent
+    -- and of what they were sent
     pub groups_sent : (P : Ask → Type 0) (xs ys : List (Grouped (AnyStore L D K))) (groups : List (List Location)) (old new : Option (List Traffic)) → All (AreUnused state) xs → All (λ g. g.retries ≡ e) ys → map (locations_in place) ys ≡ map (locations_in place) xs
-        → AllZip (Sent P) xs ys → map (locations_in place) ys ≡ groups → new ≡ fold (with_group state) old ys → GroupsDialed (SendsFronts P) (λ s ended. Unit {0}) groups old new
+        → AllZip (Sent P) xs ys → map (locations_in place) ys ≡ groups → new ≡ fold (with_group state) old ys → EachDialed (SendsFronts P) (stores_of groups) old new
     groups_sent P xs ys groups old new unused tries stands sends located ended =
-        located_dialed (SendsFronts P) (λ s ended. Unit {0}) ys groups old new located ended
-        (groups_dialed (SendsFronts P) (λ s ended. Unit {0}) (λ a b. Lent a b × Sent P a b)
-        (λ g h o r. (let many = sym (many_stores place h g r.0.1.1) in one_sent P g.stores h.stores o many r.0.0 r.1)) xs ys old
+        located_dialed (SendsFronts P) ys groups old new located ended
+        (groups_dialed (SendsFronts P) (λ a b. Lent a b × Sent P a b)
+        (λ g h o r. (let many = sym (many_stores place h g r.0.1.1) in each_sent place state P g.stores h.stores (locations_in place h) o (fold (with_those state) o h.stores) r.0.0 (stores_sent P g.stores h.stores many r.1) refl refl)) xs ys old
         (both_zip Lent (Sent P) xs ys (lent xs ys unused tries stands) sends))
-
--- no connection at all
-pub groups_undialed : (P Q : Server → List Traffic → Type 0) → ((s : Server) → P s []) → ((s : Server) → Q s []) → (groups : List (List Location)) (old : Option (List Traffic)) → GroupsDialed P Q groups old old
-groups_undialed P Q p q [] old = refl
-groups_undialed P Q p q ([] ∷ groups) old = (old, refl, groups_undialed P Q p q groups old)
-groups_undialed P Q p q ((s ∷ []) ∷ groups) old = (old, none_dialed P p (s ∷ []) old, groups_undialed P Q p q groups old)
-groups_undialed P Q p q ((s ∷ t ∷ g) ∷ groups) old = (old, none_dialed Q q (s ∷ t ∷ g) old, groups_undialed P Q p q groups old)
 
 -- ---- several workers' groups
 
 -- the connections of worker m and those after it have ended, and then those of the workers before it
 module _ {X : Type 0} (Given : X → Storage → Storage → Type 0) where
-  pub groups_turn_dialed : (P Q : ℕ → Server → List Traffic → Type 0) (groups : List (List Location)) (m : ℕ) (xs : List X) (w u : Storage) (new : Option (List Traffic)) → GivenInTurn Given xs w u
-      → ((i : ℕ) (x : X) → i < length xs → (a b : Storage) → Given (slice_index_or xs i x) a b → GroupsDialed (P (m + i)) (Q (m + i)) groups a.dial.ended b.dial.ended)
-      → WorkersGroupsDialed P Q m groups u.dial.ended new → WorkersGroupsDialed P Q (m + length xs) groups w.dial.ended new
-  groups_turn_dialed P Q groups m [] w u new same each last =
-      let from : WorkersGroupsDialed P Q m groups w.dial.ended new = subst (λ (s : Storage). WorkersGroupsDialed P Q m groups s.dial.ended new) same last in
+  pub groups_turn_dialed : (P : ℕ → Server → List Traffic → Type 0) (stores : List Location) (m : ℕ) (xs : List X) (w u : Storage) (new : Option (List Traffic)) → GivenInTurn Given xs w u
+      → ((i : ℕ) (x : X) → i < length xs → (a b : Storage) → Given (slice_index_or xs i x) a b → EachDialed (P (m + i)) stores a.dial.ended b.dial.ended)
+      → WorkersDialed P m stores u.dial.ended new → WorkersDialed P (m + length xs) stores w.dial.ended new
+  groups_turn_dialed P stores m [] w u new same each last =
+      let from : WorkersDialed P m stores w.dial.ended new = subst (λ (s : Storage). WorkersDialed P m stores s.dial.ended new) same last in
       let none : m ≡ m + 0 = omega arith in
-      subst (λ (n : ℕ). WorkersGroupsDialed P Q n groups w.dial.ended new) none from
-  groups_turn_dialed P Q groups m (x ∷ xs) w u new turn each last =
+      subst (λ (n : ℕ). WorkersDialed P n stores w.dial.ended new) none from
+  groups_turn_dialed P stores m (x ∷ xs) w u new turn each last =
       let first : m + 0 ≡ m = omega arith in
-      let one : GroupsDialed (P m) (Q m) groups turn.0.dial.ended u.dial.ended = subst (λ (n : ℕ). GroupsDialed (P n) (Q n) groups turn.0.dial.ended u.dial.ended) first (each 0 x (omega arith) turn.0 u turn.2) in
-      let more = groups_turn_dialed P Q groups (suc m) xs w turn.0 new turn.1
-      (λ i y lt a b is. let next : m + suc i ≡ suc m + i = omega arith in subst (λ (n : ℕ). GroupsDialed (P n) (Q n) groups a.dial.ended b.dial.ended) next (each (suc i) y (omega (arith, lt)) a b is))
+      let one : EachDialed (P m) stores turn.0.dial.ended u.dial.ended = subst (λ (n : ℕ). EachDialed (P n) stores turn.0.dial.ended u.dial.ended) first (each 0 x (omega arith) turn.0 u turn.2) in
+      let more = groups_turn_dialed P stores (suc m) xs w turn.0 new turn.1
+      (λ i y lt a b is. let next : m + suc i ≡ suc m + i = omega arith in subst (λ (n : ℕ). EachDialed (P n) stores a.dial.ended b.dial.ended) next (each (suc i) y (omega (arith, lt)) a b is))
       (u.dial.ended, one, last) in
       let many : suc m + length xs ≡ m + suc (length xs) = omega arith in
-      subst (λ (n : ℕ). WorkersGroupsDialed P Q n groups w.dial.ended new) many more
+      subst (λ (n : ℕ). WorkersDialed P n stores w.dial.ended new) many more

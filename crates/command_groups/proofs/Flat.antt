@@ -55,18 +55,3 @@ pub folders_parts : (front more : List Location) → IsTrue (are_folders (front 
 folders_parts [] more t = (refl, t)
 folders_parts (locations.Folder name ∷ front) more t = folders_parts front more t
 folders_parts (locations.Http host port prefix ∷ front) more t = absurd (cc)
-
--- ---- how many they are
-
--- each group has at most as many stores as all of them
-pub size_within : {S : Type 0} (xs : List S) (size : S → ℕ) (groups : List (List Location)) → map size xs ≡ map length groups → (k : ℕ) (d : S) → k < length xs → size (slice_index_or xs k d) ≤ length (stores_of groups)
-size_within [] size groups same k d lt = absurd (omega (arith, lt))
-size_within (x ∷ xs) size [] same k d lt = absurd (cc)
-size_within (x ∷ xs) size (g ∷ groups) same zero d lt =
-    let one : size x ≡ length g = cons_head (size x) (length g) (map size xs) (map length groups) same in
-    let both : length (g ++ stores_of groups) ≡ length g + length (stores_of groups) = length-append g (stores_of groups) in
-    omega (arith, one, both)
-size_within (x ∷ xs) size (g ∷ groups) same (suc k) d lt =
-    let rest = size_within xs size groups (cons_tail (size x) (length g) (map size xs) (map length groups) same) k d (omega (arith, lt)) in
-    let both : length (g ++ stores_of groups) ≡ length g + length (stores_of groups) = length-append g (stores_of groups) in
-    omega (arith, rest, both)

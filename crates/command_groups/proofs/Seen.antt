@@ -17,7 +17,7 @@ use Rattle.command_steps.specs.declared.any_store.AnyStore.{AnyStore}
 use Rattle.command_words.specs.declared.command.Location.{Location}
 use Rattle.dsy_base.specs.Maps.{Map}
 use Rattle.store_chain.proofs.Pairs.{cons_head, cons_tail}
-use Rattle.store_group.specs.Groups.{Grouped, all_tell, told_or_all, of_one, said_of, said_steady, seen_of, steady_of, steady_store}
+use Rattle.store_group.specs.Groups.{AtStore, Grouped, all_tell, told_or_all, of_one, said_of, said_steady, seen_of, steady_of, steady_store}
 
 -- ---- lists of what is told
 
@@ -41,35 +41,23 @@ module _ {S X : Type 0} (f : S → Option X) where
   seen_map true zero [] = refl
   seen_map true zero (x ∷ xs) = refl
 
-  -- a list of one tells what that one tells
-  single : (b : Bool) (n : ℕ) (x : S) → seen_of f (x ∷ []) (steady_of b n (x ∷ [])) ≡ f x
-  single false n x = refl
-  single true zero x = refl
-  single true (suc n) x = refl
-
-  pub seen_one : (b c : Bool) (n m : ℕ) (xs ys : List S) → length xs ≡ length ys → seen_of f xs (steady_of b n xs) ≡ seen_of f ys (steady_of c m ys) → of_one f xs ≡ of_one f ys
-  seen_one b c n m [] [] many same = refl
-  seen_one b c n m [] (y ∷ ys) many same = absurd (cc)
-  seen_one b c n m (x ∷ xs) [] many same = absurd (cc)
-  seen_one b c n m (x ∷ []) (y ∷ []) many same = sym (single b n x) ∙ same ∙ single c m y
-  seen_one b c n m (x ∷ []) (y ∷ e ∷ ys) many same = absurd (cc)
-  seen_one b c n m (x ∷ a ∷ xs) (y ∷ []) many same = absurd (cc)
-  seen_one b c n m (x ∷ a ∷ xs) (y ∷ e ∷ ys) many same = refl
-
-  -- where something is told, the first element is asked first
-  pub first_seen : (b : Bool) (n : ℕ) (xs : List S) (v : X) → seen_of f xs (steady_of b n xs) ≡ Some v → n < length xs → n ≡ 0
-  first_seen b n [] v told inside = absurd (omega (arith, inside))
-  first_seen b n (x ∷ []) v told inside = omega (arith, inside)
-  first_seen false n (x ∷ y ∷ xs) v told inside = absurd (cc)
-  first_seen true zero (x ∷ y ∷ xs) v told inside = refl
-  first_seen true (suc n) (x ∷ y ∷ xs) v told inside = absurd (cc)
+first_at : {S : Type 0} (P : S → Type 0) (k : ℕ) (x : S) (xs : List S) → k ≡ 0 → P x → AtStore P k (x ∷ xs)
+first_at P zero x xs first h = h
+first_at P (suc k) x xs first h = absurd (omega (arith, first))
 
 -- what the first has said, some store has
 keeps_any : {S : Type 0} (said : S → Said) (b : Bool) (n : ℕ) (xs : List S) (id : List ℕ) → KeepsOf (said_steady said xs (steady_of b n xs)) (said_of said xs) id
 keeps_any said false n xs id = keeps_itself (said_of said xs) id
 keeps_any said true (suc n) xs id = keeps_itself (said_of said xs) id
 keeps_any said true zero [] id = keeps_itself (said_of said []) id
-keeps_any said true zero (x ∷ xs) id = record { denied = inl; shown = λ b. inl; longer = λ n. inl; taken = λ b. inl }
+keeps_any said true zero (x ∷ xs) id = record {
+  denied = inl;
+  shown = λ b. inl;
+  longer = λ n. inl;
+  taken = λ b. inl;
+  shown_by = λ k b h. first_at (λ s. (said s).shown id b) k x xs h.0 h.1;
+  longer_by = λ k n h. first_at (λ s. (said s).longer id n) k x xs h.0 h.1;
+}
 
 pub group_keeps : {S : Type 0} (said : S → Said) (told : Bool) (holds : S → Option (Map (List ℕ))) (g : Grouped S) (id : List ℕ) → KeepsOf (said_steady said g.stores (steady_store told holds g)) (said_of said g.stores) id
 group_keeps said told holds g id = keeps_any said (told && all_tell holds g.stores) g.active g.stores id
@@ -221,16 +209,6 @@ module _ {L D K : Type 0} (sure : Bool) (files : L → Option (Map (List ℕ))) 
       let one : told_chunks sure files g ≡ Some (chunks f) = group_chunks g ∙ ap (option_map chunks) (cons_head (told_files sure files g) (Some f) (map (told_files sure files) xs) (map Some fs) told) in
       let others = groups_hold xs fs (cons_tail (told_files sure files g) (Some f) (map (told_files sure files) xs) (map Some fs) told) in
       λ i. one i ∷ others i
-
-  -- where groups tell, the first store of each is asked first
-  pub first_active : (xs : List (Grouped (AnyStore L D K))) (fs : List (Map (List ℕ))) → map (told_files sure files) xs ≡ map Some fs → All (λ g. g.active < length g.stores) xs → (k : ℕ) → slice_index (map (λ g. g.active) xs) k ≡ 0
-  first_active [] fs told inside k = refl
-  first_active (g ∷ xs) [] told inside k = absurd (cc)
-  first_active (g ∷ xs) (f ∷ fs) told inside zero =
-      first_seen (source_files files) (sure && all_tell (chunks_in files) g.stores) g.active g.stores f
-      (cons_head (told_files sure files g) (Some f) (map (told_files sure files) xs) (map Some fs) told) (All-head (λ (g : Grouped (AnyStore L D K)). g.active < length g.stores) g xs inside)
-  first_active (g ∷ xs) (f ∷ fs) told inside (suc k) =
-      first_active xs fs (cons_tail (told_files sure files g) (Some f) (map (told_files sure files) xs) (map Some fs) told) (All-tail (λ (g : Grouped (AnyStore L D K)). g.active < length g.stores) g xs inside) k
 
   -- ---- groups opened for the same words
 

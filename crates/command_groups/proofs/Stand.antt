@@ -1,22 +1,19 @@
 -- Groups that were asked: where they stand, how often their calls are made again, and what their folders hold.
-use Rattle.std.proofs.Common.{Bool, ◌&&◌, ◌≡◌, ◌∙◌, ◌++◌, ◌+◌, ◌<◌, ◌≤◌, ℕ, zero, suc, List, [], ◌∷◌, length, map, slice_index, slice_index_or, Option, Some, None, IfSome, refl, sym, ap, arith}
+use Rattle.std.proofs.Common.{◌≡◌, ◌∙◌, ◌++◌, ◌+◌, ◌<◌, ◌≤◌, ℕ, zero, suc, List, [], ◌∷◌, length, map, slice_index, slice_index_or, Option, Some, None, IfSome, refl, sym, ap, arith}
 use Rattle.std.proofs.lemmas.List.{length-append, length-map}
 use Rattle.std.proofs.lemmas.List.Elements.{All-cons, All-head, All-nil, All-tail}
-use Rattle.std.specs.List.{All, AllZip}
-use Rattle.chunk_store.specs.Asks.{Ask, Sends}
-use Rattle.command_groups.proofs.Decoded.{group_files_same, places_same}
-use Rattle.command_groups.proofs.Seen.{seen_one}
+use Rattle.std.specs.List.{All}
+use Rattle.command_groups.proofs.Decoded.{places_same}
 use Rattle.command_groups.specs.Groups.{AreGroups, stores_of}
-use Rattle.command_groups.specs.Opened.{IsFresh, files_in, locations_in, told_files}
+use Rattle.command_groups.specs.Opened.{IsFresh, files_in, locations_in}
 use Rattle.command_steps.proofs.Given.{stand_still}
-use Rattle.command_steps.specs.AnyStores.{chunks_in, location_in, place_in, source_files, source_sent}
+use Rattle.command_steps.specs.AnyStores.{location_in, place_in}
 use Rattle.command_steps.specs.Sources.{location_files}
 use Rattle.command_steps.specs.declared.any_store.AnyStore.{AnyStore}
 use Rattle.command_words.specs.declared.command.Location.{Location}
-use Rattle.dsy_base.specs.Links.{DialState}
 use Rattle.dsy_base.specs.Maps.{Map}
 use Rattle.store_chain.proofs.Pairs.{cons_head, cons_tail}
-use Rattle.store_group.specs.Groups.{Grouped, all_tell, group_place, places_of, sent_of}
+use Rattle.store_group.specs.Groups.{Grouped, group_place, places_of}
 
 -- ---- where they stand
 
@@ -50,35 +47,6 @@ module _ {L D K : Type 0} (place : L → List ℕ) where
 -- as many stores stand there
 pub many_stores : {L D K : Type 0} (place : L → List ℕ) (g h : Grouped (AnyStore L D K)) → locations_in place g ≡ locations_in place h → length g.stores ≡ length h.stores
 many_stores place g h same = sym (length-map g.stores (location_in place)) ∙ ap length same ∙ length-map h.stores (location_in place)
-
-pub sizes_stand : {L D K : Type 0} (place : L → List ℕ) (xs : List (Grouped (AnyStore L D K))) (groups : List (List Location)) → map (locations_in place) xs ≡ groups → map (λ g. length g.stores) xs ≡ map length groups
-sizes_stand place [] [] same = refl
-sizes_stand place [] (q ∷ groups) same = absurd (cc)
-sizes_stand place (g ∷ xs) [] same = absurd (cc)
-sizes_stand place (g ∷ xs) (q ∷ groups) same =
-    let one : length g.stores ≡ length q = sym (length-map g.stores (location_in place)) ∙ ap length (cons_head (locations_in place g) q (map (locations_in place) xs) groups same) in
-    let others = sizes_stand place xs groups (cons_tail (locations_in place g) q (map (locations_in place) xs) groups same) in
-    λ i. one i ∷ others i
-
--- ---- what their folders hold
-
-module _ {L D K : Type 0} (place : L → List ℕ) (sure : Bool) (files : L → Option (Map (List ℕ))) (state : D → DialState) where
-  -- the files of all folders are as they were, where the groups were only asked
-  pub folders_still : (P : Ask → Type 0) (old new : List (Grouped (AnyStore L D K))) → map (locations_in place) new ≡ map (locations_in place) old → map (told_files sure files) new ≡ map (told_files sure files) old
-      → AllZip (λ a b. Sends P (sent_of (source_sent state) (source_files files) a.stores) (sent_of (source_sent state) (source_files files) b.stores)) old new
-      → map (files_in files) new ≡ map (files_in files) old
-  folders_still P [] [] same told sends = refl
-  folders_still P [] (h ∷ new) same told sends = absurd sends
-  folders_still P (g ∷ old) [] same told sends = absurd sends
-  folders_still P (g ∷ old) (h ∷ new) same told sends =
-      let stands = cons_head (locations_in place h) (locations_in place g) (map (locations_in place) new) (map (locations_in place) old) same in
-      let tells = cons_head (told_files sure files h) (told_files sure files g) (map (told_files sure files) new) (map (told_files sure files) old) told in
-      let many = many_stores place h g stands in
-      let alone = seen_one (source_files files) (sure && all_tell (chunks_in files) h.stores) (sure && all_tell (chunks_in files) g.stores) h.active g.active h.stores g.stores many tells in
-      let one = group_files_same (source_files files) (source_sent state) h.stores g.stores many alone sends.0.spells in
-      let others = folders_still P old new (cons_tail (locations_in place h) (locations_in place g) (map (locations_in place) new) (map (locations_in place) old) same)
-      (cons_tail (told_files sure files h) (told_files sure files g) (map (told_files sure files) new) (map (told_files sure files) old) told) sends.1 in
-      λ i. one i ∷ others i
 
 -- ---- what was found of their folders
 
@@ -124,17 +92,3 @@ groups_many locations groups retries items same are =
     let many : length items ≡ length groups = sym (length-map items locations) ∙ ap length same in
     let few = few_groups groups are.each in
     (omega (arith, many, are.some), omega (arith, many, few, are.few))
-
--- the number of each group's active store is inside the group
-pub active_inside : {L D K : Type 0} (place : L → List ℕ) (xs : List (Grouped (AnyStore L D K))) (groups : List (List Location)) → map (locations_in place) xs ≡ groups → All (λ g. g.active < length g.stores) xs
-    → (k : ℕ) → k < length groups → slice_index (map (λ g. g.active) xs) k < length (slice_index_or groups k [])
-active_inside place [] groups same inside k lt =
-    let none : length groups ≡ 0 = ap length (sym same) in
-    absurd (omega (arith, lt, none))
-active_inside {L} {D} {K} place (g ∷ xs) [] same inside k lt = absurd (cc)
-active_inside {L} {D} {K} place (g ∷ xs) (q ∷ groups) same inside zero lt =
-    let one : length g.stores ≡ length q = sym (length-map g.stores (location_in place)) ∙ ap length (cons_head (locations_in place g) q (map (locations_in place) xs) groups same) in
-    let at = All-head (λ (h : Grouped (AnyStore L D K)). h.active < length h.stores) g xs inside in
-    omega (arith, one, at)
-active_inside {L} {D} {K} place (g ∷ xs) (q ∷ groups) same inside (suc k) lt =
-    active_inside place xs groups (cons_tail (locations_in place g) q (map (locations_in place) xs) groups same) (All-tail (λ (h : Grouped (AnyStore L D K)). h.active < length h.stores) g xs inside) k (omega (arith, lt))

@@ -1,5 +1,5 @@
 -- What groups that were given back have said and counted, as the words that name them.
-use Rattle.std.proofs.Common.{Bool, false, ◌≡◌, ◌⊎◌, ◌+◌, ◌*◌, ◌<◌, ◌≤◌, ℕ, zero, suc, List, [], ◌∷◌, length, map, Option, Some, None, IfSome, subst, inl, inr, arith}
+use Rattle.std.proofs.Common.{Bool, false, ◌≡◌, ◌⊎◌, ◌+◌, ◌*◌, ◌≤◌, ℕ, zero, suc, List, [], ◌∷◌, length, map, Option, Some, None, IfSome, subst, inl, inr, arith}
 use Rattle.std.proofs.Math.Nat.{mul-le-mul_right}
 use Rattle.std.proofs.lemmas.List.Elements.{All-cons, All-from_recursion, All-head, All-nil, All-tail}
 use Rattle.std.specs.List.{All, zip}
@@ -23,13 +23,19 @@ use Rattle.dsy_base.specs.Maps.{Map}
 use Rattle.http_read.specs.Refusals.{IsUnacceptable}
 use Rattle.store_chain.proofs.Pairs.{cons_head, cons_tail}
 use Rattle.store_chain.specs.Lists.{FirstAt}
-use Rattle.store_group.specs.Groups.{Grouped, SomeStore, group_told, said_of}
+use Rattle.store_group.specs.Groups.{AtStore, Grouped, SomeStore, group_told, said_of}
 
 -- what some store is like, the words of some store are like
 some_at : {S X : Type 0} (location : S → X) (T P : S → Type 0) (Q : X → Type 0) → ((s : S) → T s → P s → Q (location s)) → (xs : List S) → All T xs → SomeStore P xs → SomeStore Q (map location xs)
 some_at location T P Q f [] all some = absurd some
 some_at location T P Q f (x ∷ xs) all (inl p) = inl (f x (All-head T x xs all) p)
 some_at location T P Q f (x ∷ xs) all (inr some) = inr (some_at location T P Q f xs (All-tail T x xs all) some)
+
+-- so it is of the store of a number
+at_place : {S X : Type 0} (location : S → X) (T P : S → Type 0) (Q : X → Type 0) → ((s : S) → T s → P s → Q (location s)) → (k : ℕ) (xs : List S) → All T xs → AtStore P k xs → AtStore Q k (map location xs)
+at_place location T P Q f k [] all at = absurd at
+at_place location T P Q f zero (x ∷ xs) all at = f x (All-head T x xs all) at
+at_place location T P Q f (suc k) (x ∷ xs) all at = at_place location T P Q f k xs (All-tail T x xs all) at
 
 module _ {S : Type 0} (location : S → Location) (said : S → Said) (counted : S → ℕ) (w v : Storage) where
   -- what a group has said, its words have
@@ -41,6 +47,8 @@ module _ {S : Type 0} (location : S → Location) (said : S → Said) (counted :
         shown = λ b. some_at location T (λ s. (said s).shown id b) (λ q. (said_at w v q).shown id b) (λ s so p. (so.says id).shown b p) xs stand;
         longer = λ n. some_at location T (λ s. (said s).longer id n) (λ q. (said_at w v q).longer id n) (λ s so p. (so.says id).longer n p) xs stand;
         taken = λ b. some_at location T (λ s. (said s).taken id b) (λ q. (said_at w v q).taken id b) (λ s so p. (so.says id).taken b p) xs stand;
+        shown_by = λ k b. at_place location T (λ s. (said s).shown id b) (λ q. (said_at w v q).shown id b) (λ s so p. (so.says id).shown b p) k xs stand;
+        longer_by = λ k n. at_place location T (λ s. (said s).longer id n) (λ q. (said_at w v q).longer id n) (λ s so p. (so.says id).longer n p) k xs stand;
       }
 
 -- ---- what they have counted

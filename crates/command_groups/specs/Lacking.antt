@@ -4,7 +4,7 @@ use Rattle.std.specs.List.{All}
 use Rattle.std.specs.Map.{count_at}
 use Rattle.chunk_store.specs.Said.{Said}
 use Rattle.command_groups.specs.Groups.{first_store}
-use Rattle.command_groups.specs.Numbers.{IsNumbered, numbered_by}
+use Rattle.command_groups.specs.Numbers.{numbered_by}
 use Rattle.command_steps.specs.Dials.{since}
 use Rattle.command_steps.specs.Sources.{Storage, said_at, server_at}
 use Rattle.command_words.specs.declared.command.Location.{Location}
@@ -15,7 +15,7 @@ use Rattle.http_read.specs.Remotes.{AtLeast}
 use Rattle.dsy_base.specs.Maps.{Map}
 use Rattle.store_chain.specs.Giving.{LacksAll}
 use Rattle.store_chain.specs.Lists.{FirstAt}
-use Rattle.store_chain.specs.Refusals.{HasShown, Lacks}
+use Rattle.store_chain.specs.Refusals.{HasShown, HasShownBy, Lacks}
 use Rattle.store_chain.specs.declared.query.Query.{Query}
 use Rattle.store_chain.specs.declared.refused.Refused.{Refused}
 use Rattle.store_chain.specs.declared.refused.Refused.TheVariants as refused
@@ -23,7 +23,7 @@ use Rattle.store_group.specs.Groups.{said_of}
 
 -- groups that hold these chunks lack the one that is wanted, for this reason, which names stores by these numbers
 abbrev pub LacksIn : (ℕ → ℕ) → Query → List (Map (List ℕ)) → Refused → Type 0
-LacksIn number c maps r = (by_group : Refused) × (r ≡ numbered_by number by_group) × LacksAll c maps by_group
+LacksIn first c maps r = (by_group : Refused) × (r ≡ numbered_by first by_group) × LacksAll c maps by_group
 
 -- what some store of the group has said
 abbrev pub group_said : Storage → Storage → List Location → Said
@@ -52,15 +52,18 @@ abbrev pub FailsFirstIn : (Said → Type 0) → ℕ → Storage → Storage → 
 FailsFirstIn lacks e w v s groups = (k : ℕ) × (s ≡ first_store groups k) × GroupFailsFirst lacks e w v k groups
 
 -- what groups have said that lack a chunk: all have denied it; or this is the first that has shown something else
--- under its id, and all lack it; or this is the first that failed, and all others lack it or failed too. The numbers
--- are those of groups
+-- under its id, as its store of this number has, and all lack it; or this is the first that failed, and all others lack
+-- it or failed too. The numbers are those of groups
 abbrev pub GroupsLack : ℕ → Query → Storage → Storage → List (List Location) → Refused → Type 0
 GroupsLack e c w v groups refused.Missing = All (λ g. (group_said w v g).denied c.id.0) groups
 GroupsLack e c w v groups (refused.Damaged k x) = FirstAt (λ g. (group_said w v g).denied c.id.0)
-    (λ g. HasShown c x (group_said w v g)) (λ g. Lacks c (group_said w v g)) k groups
+    (λ g. HasShown c x (group_said w v g) × HasShownBy k.member c x (group_said w v g))
+    (λ g. Lacks c (group_said w v g)) k.number groups
 GroupsLack e c w v groups (refused.StoreFault k) = GroupFailsFirst (Lacks c) e w v k groups
 GroupsLack e c w v groups refused.Memory = Unit {0}
 
--- so it was, where the store that is named is one of the group, and is its first one where the group failed
+-- so it was, where the number of a store over all groups is named: of the one that has shown something, and of the
+-- first one of the group that failed
 abbrev pub HaveLackedIn : ℕ → Query → Storage → Storage → List (List Location) → Refused → Type 0
-HaveLackedIn e c w v groups r = (by_group : Refused) × IsNumbered groups by_group r × GroupsLack e c w v groups by_group
+HaveLackedIn e c w v groups r =
+    (by_group : Refused) × (r ≡ numbered_by (first_store groups) by_group) × GroupsLack e c w v groups by_group

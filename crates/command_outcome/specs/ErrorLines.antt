@@ -64,7 +64,7 @@ text_of (ends.Missing entry id) =
     codes "chunk " ++ (encode_lower id.0 ++ (codes " of entry " ++ (decimal entry ++ codes " is missing")))
 text_of (ends.Damaged entry id store shows) =
     codes "chunk " ++ (encode_lower id.0
-    ++ (codes " of entry " ++ (decimal entry ++ (codes " is damaged in store " ++ decimal store))))
+    ++ (codes " of entry " ++ (decimal entry ++ (codes " is damaged in store " ++ decimal store.number))))
 text_of (ends.Mismatch entry got) =
     codes "entry " ++ (decimal entry ++ (codes " has the name " ++ encode_lower got.0))
 text_of (ends.Length size) = codes "the file has " ++ (decimal size ++ codes " bytes")

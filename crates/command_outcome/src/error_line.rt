@@ -189,7 +189,7 @@ fn add_text(line: &mut Line, outcome: &Outcome) -> Result<(), Memory>
             id,
             store,
             ..
-        } => add_damaged(line, *entry, id, *store),
+        } => add_damaged(line, *entry, id, store.number),
         Outcome::Mismatch { entry, got } => add_mismatch(line, *entry, got),
         Outcome::Length { size } => add_counted(line, "the file has ", *size, " bytes"),
         Outcome::Changed { entry, .. } => add_counted(

@@ -7,6 +7,7 @@ use caibx_fields::fault::IndexFault;
 use chunk_ends::sizes::SizeFault;
 use chunk_store::id::ChunkId;
 use chunk_store::shows::Shows;
+use chunk_store::store::Giver;
 use command_words::usage::UsageWhy;
 use dsy_base::name::Name;
 
@@ -37,11 +38,11 @@ pub enum Outcome {
         entry: u64,
         id: ChunkId,
     },
-    /// The store holds other bytes under the id.
+    /// The store holds other bytes under the id: the one of this number, where its `member` is 0.
     Damaged {
         entry: u64,
         id: ChunkId,
-        store: u32,
+        store: Giver,
         shows: Shows,
     },
     /// The chunk of this entry has the digest `got`, and the index lists another.

@@ -33,7 +33,7 @@ since_none Q (Some sent) none (Some ts) adds =
     let is : sent_of ts ≡ adds.0 = some_is (sent_of ts) (sent ++ adds.0) adds.1 ∙ ap (λ l. l ++ adds.0) none in
     all_of_map Q ts (subst (All Q) (sym is) adds.2)
 
-unused_sent : {L D K : Type 0} (state : D → DialState) (s : AnyStore L D K) → IsUnused state s → IfSome (source_sent state s).ended (λ sent. sent ≡ [])
+unused_sent : {L D K : Type 0} (state : D → DialState) (s : AnyStore L D K) → IsUnused state s → IfSome (source_sent state s 0).ended (λ sent. sent ≡ [])
 unused_sent state (stores.Folder l) unused = refl
 unused_sent state (stores.Http r) unused = go (state r.dial).ended unused where
   go : (o : Option (List Traffic)) → IfSome o (λ ended. ended ≡ []) → IfSome (option_map sent_of o) (λ sent. sent ≡ [])
@@ -45,8 +45,8 @@ sent_dialed : {L D K : Type 0} (state : D → DialState) (P : Ask → Type 0) (x
 sent_dialed state P x (stores.Folder l) unused sends = tt
 sent_dialed state P x (stores.Http r) unused sends =
     let new = option_map sent_of (state r.dial).ended in
-    let K : (Ask → List ℕ) → Type 0 = λ spells. AddsOnly (IsFrontOf P spells) (source_sent state x).ended new in
-    since_none (IsFrontOf P (ask_bytes r.server)) (source_sent state x).ended (unused_sent state x unused) (state r.dial).ended (subst K (sym sends.spells) sends.ended)
+    let K : (Ask → List ℕ) → Type 0 = λ spells. AddsOnly (IsFrontOf P spells) (source_sent state x 0).ended new in
+    since_none (IsFrontOf P (ask_bytes r.server)) (source_sent state x 0).ended (unused_sent state x unused) (state r.dial).ended (subst K (sym (sends 0).spells) (sends 0).ended)
 
 all_sent : {L D K : Type 0} (state : D → DialState) (P : Ask → Type 0) (xs ys : List (AnyStore L D K)) → All (IsUnused state) xs
     → AllZip (λ a b. Sends P (source_sent state a) (source_sent state b)) xs ys → All (IsDialed state (SendsFronts P)) ys

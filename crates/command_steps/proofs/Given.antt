@@ -8,6 +8,7 @@ use Rattle.std.specs.List.{zip}
 use Rattle.std.specs.Map.{count_at}
 use Rattle.std.specs.Option.{option_map}
 use Rattle.chunk_store.specs.Folders.{chunks}
+use Rattle.chunk_store.proofs.Said.{keeps_itself}
 use Rattle.chunk_store.specs.Said.{KeepsOf, Said, said_by}
 use Rattle.command_words.specs.declared.command.Location.{Location}
 use Rattle.command_words.specs.declared.command.Location.TheVariants as locations
@@ -60,16 +61,13 @@ stands_there place old new same = sym (read_off (location_in place new)) ∙ ap 
 
 -- ---- what one has counted and said
 
-keeps_all : (a : Said) (id : List ℕ) → KeepsOf a a id
-keeps_all a id = record { denied = λ h. h; shown = λ b h. h; longer = λ n h. h; taken = λ b h. h }
-
 -- without knowledge nothing is claimed
-keeps_none : (a : Said) (id : List ℕ) → KeepsOf a (said_by None) id
-keeps_none a id = record { denied = λ h. tt; shown = λ b h. tt; longer = λ n h. tt; taken = λ b h. tt }
+keeps_none : (held : Option (Map (List ℕ))) (id : List ℕ) → KeepsOf (said_by held) (said_by None) id
+keeps_none held id = record { denied = λ h. tt; shown = λ b h. tt; longer = λ n h. tt; taken = λ b h. tt; shown_by = λ k b h. (h.0, tt); longer_by = λ k n h. (h.0, tt) }
 
 folder_says : {L : Type 0} (files : L → Option (Map (List ℕ))) (place : L → List ℕ) (y : Option (Map (Map (List ℕ)))) (l : L) → IfSome y (λ m. files l ≡ m (place l)) → (id : List ℕ) → KeepsOf (said_by (option_map chunks (files l))) (said_by (option_map chunks (files_at y (place l)))) id
-folder_says files place None l held id = keeps_none (said_by (option_map chunks (files l))) id
-folder_says files place (Some m) l held id = subst (λ o. KeepsOf (said_by (option_map chunks (files l))) (said_by (option_map chunks o)) id) held (keeps_all (said_by (option_map chunks (files l))) id)
+folder_says files place None l held id = keeps_none (option_map chunks (files l)) id
+folder_says files place (Some m) l held id = subst (λ o. KeepsOf (said_by (option_map chunks (files l))) (said_by (option_map chunks o)) id) held (keeps_itself (said_by (option_map chunks (files l))) id)
 
 dialed_rose : (a b f n : ℕ) → raised a f ≤ b → Rose 0 (raised f n) → Rose a b ⊎ (0 < n)
 dialed_rose a b f n le rose = elim (cases_lt 0 n) [
@@ -94,6 +92,8 @@ module _ {L D K : Type 0} (files : L → Option (Map (List ℕ))) (place : L →
         shown = λ b. any_among (IsShowing r.server id b) ended last given.ended;
         longer = λ n. any_among (IsLonger r.server id n) ended last given.ended;
         taken = λ b. any_among (IsTaking r.server id b) ended last given.ended;
+        shown_by = λ k b h. (h.0, any_among (IsShowing r.server id b) ended last given.ended h.1);
+        longer_by = λ k n h. (h.0, any_among (IsLonger r.server id n) ended last given.ended h.1);
       }
 
   pub store_rises : (s : AnyStore L D K) → IsGiven place faults state w v s → Rose 0 (source_faults faults state s) → StoreRose w v (location_in place s)

@@ -8,7 +8,7 @@ use Rattle.command_words.specs.declared.command.Location.{Location}
 use Rattle.command_steps.proofs.Given.{Stands, each_as, fails_first, first_as}
 use Rattle.command_steps.specs.Sources.{Storage, said_at}
 use Rattle.command_steps.specs.Sources.{HaveLacked}
-use Rattle.store_chain.specs.Refusals.{HasShown, Lacks, Refuses}
+use Rattle.store_chain.specs.Refusals.{HasShown, HasShownBy, Lacks, Refuses}
 use Rattle.store_chain.specs.declared.refused.Refused.{Refused}
 use Rattle.store_chain.specs.declared.refused.Refused.TheVariants as refused
 use Rattle.store_chain.specs.declared.query.Query.{Query}
@@ -29,8 +29,8 @@ same_length f a b same = sym (length-map a f) ∙ ap length same ∙ length-map 
 module _ {S : Type 0} (location : S → Location) (said : S → Said) (counted : S → ℕ) (lacks_memory : Bool) (w v : Storage) (stores : List Location) where
   pub have_lacked : (c : Query) (r : Refused) (before after : List S) → length before ≡ length after → map location after ≡ stores → All (Stands location said counted w v) after → Refuses said counted lacks_memory c before after r → HaveLacked c w v stores r
   have_lacked c refused.Missing before after many at all h = each_as location said counted w v (λ q. (said q.1).denied c.id.0) (λ s. (said_at w v s).denied c.id.0) (λ q s y. (s.says c.id.0).denied y) before after stores many at all h
-  have_lacked c (refused.Damaged s x) before after many at all h = first_as location said counted w v (λ q. (said q.1).denied c.id.0) (λ q. HasShown c x (said q.1)) (λ q. Lacks c (said q.1))
+  have_lacked c (refused.Damaged s x) before after many at all h = first_as location said counted w v (λ q. (said q.1).denied c.id.0) (λ q. HasShown c x (said q.1) × HasShownBy s.member c x (said q.1)) (λ q. Lacks c (said q.1))
       (λ s. (said_at w v s).denied c.id.0) (λ s. HasShown c x (said_at w v s)) (λ s. Lacks c (said_at w v s))
-      (λ q s y. (s.says c.id.0).denied y) (λ q s y. shown_still c x (said q.1) (said_at w v (location q.1)) (s.says c.id.0) y) (λ q s y. lacks_still c (said q.1) (said_at w v (location q.1)) (s.says c.id.0) y) s before after stores many at all h
+      (λ q s y. (s.says c.id.0).denied y) (λ q s y. shown_still c x (said q.1) (said_at w v (location q.1)) (s.says c.id.0) y.0) (λ q s y. lacks_still c (said q.1) (said_at w v (location q.1)) (s.says c.id.0) y) s.number before after stores many at all h
   have_lacked c (refused.StoreFault s) before after many at all h = fails_first location said counted w v (Lacks c) c.id.0 (λ a b keeps y. lacks_still c a b keeps y) s before after stores many at all h
   have_lacked c refused.Memory before after many at all h = tt

@@ -112,7 +112,7 @@ FailsFirst lacks w v =
 abbrev pub HaveLacked : Query → Storage → Storage → List Location → Refused → Type 0
 HaveLacked c w v stores refused.Missing = All (λ s. (said_at w v s).denied c.id.0) stores
 HaveLacked c w v stores (refused.Damaged s x) = FirstAt (λ s. (said_at w v s).denied c.id.0)
-    (λ s. HasShown c x (said_at w v s)) (λ s. Lacks c (said_at w v s)) s stores
+    (λ s. HasShown c x (said_at w v s)) (λ s. Lacks c (said_at w v s)) s.number stores
 HaveLacked c w v stores (refused.StoreFault s) = FailsFirst (Lacks c) w v s stores
 HaveLacked c w v stores refused.Memory = Unit {0}
 

@@ -60,6 +60,10 @@ impl<L: Look, D: Dial> Store for AnyStore<L, D> {
         }
     }
 
+    fn giver(&self) -> usize {
+        0
+    }
+
     fn has(&mut self, id: &ChunkId) -> Result<bool, IoFault> {
         match self {
             AnyStore::Folder(store) => store.has(id),

@@ -53,6 +53,8 @@ says_earlier s a b c g h id = record {
   shown = λ t. any_earlier (IsShowing s id t) a b c g h;
   longer = λ n. any_earlier (IsLonger s id n) a b c g h;
   taken = λ t. any_earlier (IsTaking s id t) a b c g h;
+  shown_by = λ k t said. (said.0, any_earlier (IsShowing s id t) a b c g h said.1);
+  longer_by = λ k n said. (said.0, any_earlier (IsLonger s id n) a b c g h said.1);
 }
 
 -- the image is the one that is listed, and of the store is so what is so where the image is told

@@ -6,6 +6,7 @@ use Rattle.caibx_codec.specs.Listing.{Listing, Rules, kind_of, size_of}
 use Rattle.cat_command.specs.Cat.{CatEnds, PutFrom, PutsBefore, PutsFirst, RangePut, IfFolders, range_size}
 use Rattle.cat_command.specs.Putting.{bytes_before, chunk_at}
 use Rattle.chunk_store.specs.Folders.{chunks}
+use Rattle.chunk_store.specs.declared.store.Giver.{Giver}
 use Rattle.chunk_store.specs.declared.id.ChunkId.{ChunkId}
 use Rattle.chunk_store.specs.declared.shows.Shows.{Shows}
 use Rattle.command_outcome.specs.declared.outcome.Outcome.{Outcome}
@@ -33,7 +34,7 @@ use Rattle.store_chain.specs.declared.refused.Refused.{Refused}
 use Rattle.store_chain.specs.declared.refused.Refused.TheVariants as refused
 
 -- groups lack a chunk for a reason of the same kind
-which_group : (number : ℕ → ℕ) (by_group r : Refused) → r ≡ numbered_by number by_group → (r ≡ refused.Missing) ⊎ ((s : ℕ) × (y : Shows) × (r ≡ refused.Damaged s y)) → (by_group ≡ refused.Missing) ⊎ ((s : ℕ) × (y : Shows) × (by_group ≡ refused.Damaged s y))
+which_group : (number : ℕ → ℕ) (by_group r : Refused) → r ≡ numbered_by number by_group → (r ≡ refused.Missing) ⊎ ((s : Giver) × (y : Shows) × (r ≡ refused.Damaged s y)) → (by_group ≡ refused.Missing) ⊎ ((s : Giver) × (y : Shows) × (by_group ≡ refused.Damaged s y))
 which_group number refused.Missing r is which = inl refl
 which_group number (refused.Damaged k x) r is which = inr (k, x, refl)
 which_group number (refused.StoreFault k) r is (inl none) = absurd (cc)
@@ -75,7 +76,7 @@ module _ (x : Contents) (w v : World) (quiet : IsQuiet w v) where
     gives : (i m : ℕ) → PutsFirst sure groups retries l at n u v m → IsCovered l at m i → SomeGivesEntry l i maps
     gives i m h covered = told (λ fs. SomeGivesEntry l i (map chunks fs)) ((h.given i covered).held)
 
-    first_lacking : (k : ℕ) (id : ChunkId) (r : Refused) → PutsBefore sure groups retries l at n u v k id r → ((r ≡ refused.Missing) ⊎ ((s : ℕ) × (y : Shows) × (r ≡ refused.Damaged s y))) → IsFirstLacking (first_store groups) l (IsGivenIn l at n maps) maps k id r
+    first_lacking : (k : ℕ) (id : ChunkId) (r : Refused) → PutsBefore sure groups retries l at n u v k id r → ((r ≡ refused.Missing) ⊎ ((s : Giver) × (y : Shows) × (r ≡ refused.Damaged s y))) → IsFirstLacking (first_store groups) l (IsGivenIn l at n maps) maps k id r
     first_lacking k id r h which =
         let lacks = told (λ fs. LacksIn (first_store groups) (chunk_at (kind_of l) l k) (map chunks fs) r) h.lacks in
         let L : ChunkId → Type 0 = λ c. LacksIn (first_store groups) (query_of (kind_of l) c (Some (size_of l k)) (size_of l k)) maps r in

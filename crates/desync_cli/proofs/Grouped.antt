@@ -8,7 +8,7 @@ use Rattle.std.proofs.lemmas.List.Sums.{sum_by-cons}
 use Rattle.chunk_store.specs.Said.{Said}
 use Rattle.command_groups.specs.Groups.{AreGroups, first_store, group_files, stores_of}
 use Rattle.command_groups.specs.Lacking.{FailsFirstIn, GroupFailsFirst, GroupRose, GroupsLack, HaveLackedIn, RoseBy}
-use Rattle.command_groups.specs.Numbers.{IsNumbered}
+use Rattle.command_groups.specs.Numbers.{numbered_by}
 use Rattle.command_steps.proofs.Dialed.{some_shown}
 use Rattle.command_steps.specs.Dials.{since}
 use Rattle.command_steps.specs.Sources.{Storage, StoreRose, location_files, server_at, store_at}
@@ -84,9 +84,9 @@ group_failed lacks e w v s groups some (k, is, h) = subst (λ n. StoreRose w v (
 same_store : (s n : ℕ) → refused.StoreFault s ≡ refused.StoreFault n → s ≡ n
 same_store s n e = cc
 
-fault_named : (e : ℕ) (c : Query) (w v : Storage) (s : ℕ) (groups : List (List Location)) (r : Refused) → IsNumbered groups r (refused.StoreFault s) → GroupsLack e c w v groups r → FailsFirstIn (Lacks c) e w v s groups
+fault_named : (e : ℕ) (c : Query) (w v : Storage) (s : ℕ) (groups : List (List Location)) (r : Refused) → refused.StoreFault s ≡ numbered_by (first_store groups) r → GroupsLack e c w v groups r → FailsFirstIn (Lacks c) e w v s groups
 fault_named e c w v s groups refused.Missing is h = absurd cc
-fault_named e c w v s groups (refused.Damaged k x) (t, is, at) h = absurd cc
+fault_named e c w v s groups (refused.Damaged k x) is h = absurd cc
 fault_named e c w v s groups (refused.StoreFault k) is h = (k, same_store s _ is, h)
 fault_named e c w v s groups refused.Memory is h = absurd cc
 

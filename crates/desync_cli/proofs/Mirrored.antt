@@ -15,8 +15,9 @@ use Rattle.chunk_store.specs.declared.id.ChunkId.{ChunkId}
 use Rattle.chunk_store.specs.declared.id.DigestKind.{DigestKind}
 use Rattle.chunk_store.specs.declared.shows.Shows.{Shows}
 use Rattle.chunk_store.specs.declared.shows.Shows.TheVariants as shows
+use Rattle.command_groups.specs.Groups.{first_store}
 use Rattle.command_groups.specs.Lacking.{GroupRose, GroupsLack, HaveLackedIn, RoseBy, group_said}
-use Rattle.command_groups.specs.Numbers.{IsNumbered}
+use Rattle.command_groups.specs.Numbers.{numbered_by}
 use Rattle.command_steps.specs.Sources.{Storage, StoreRose, files_at, said_at}
 use Rattle.command_words.specs.declared.command.Location.{Location}
 use Rattle.command_words.specs.declared.command.Location.TheVariants as locations
@@ -26,7 +27,7 @@ use Rattle.desync_cli.specs.AtHand.{GroupGivesEntry, StoreGivesEntry}
 use Rattle.dsy_base.specs.Maps.{Map}
 use Rattle.store_chain.specs.Lists.{FirstAt}
 use Rattle.store_chain.specs.Queries.{ShowsElse}
-use Rattle.store_chain.specs.Refusals.{HasShown, Lacks}
+use Rattle.store_chain.specs.Refusals.{HasShown, HasShownBy, Lacks}
 use Rattle.store_chain.specs.declared.query.Query.{Query}
 use Rattle.store_chain.specs.declared.refused.Refused.{Refused}
 use Rattle.store_chain.specs.declared.refused.Refused.TheVariants as refused
@@ -130,14 +131,14 @@ module _ (w v : Storage) (none : NoneRose w.disk v.disk) (n : Map (Map (List ℕ
   passed_not e groups refused.Missing told said any =
       none_all GroupGives groups (All-weaker (λ g. (group_said w v g).denied id.0) (λ g. GroupGives g → ⊥) denied_not groups said) any
   passed_not e groups (refused.Damaged j y) told said any =
-      none_first GroupGives (λ g. (group_said w v g).denied id.0) (λ g. HasShown Lost y (group_said w v g)) (λ g. Lacks Lost (group_said w v g))
-      denied_not (λ g h. lacks_not g (inr (y, h))) lacks_not j groups said any
+      none_first GroupGives (λ g. (group_said w v g).denied id.0) (λ g. HasShown Lost y (group_said w v g) × HasShownBy j.member Lost y (group_said w v g)) (λ g. Lacks Lost (group_said w v g))
+      denied_not (λ g h. lacks_not g (inr (y, h.0))) lacks_not j.number groups said any
   passed_not e groups (refused.StoreFault j) told said any =
       none_first GroupGives (λ g. Lacks Lost (group_said w v g)) (GroupRose e w v) (λ g. Lacks Lost (group_said w v g) ⊎ GroupRose e w v g)
       lacks_not (failed_not e) (λ g h gives. elim h [ inl lacks ↦ lacks_not g lacks gives | inr rose ↦ failed_not e g rose gives ]) j groups said any
   passed_not e groups refused.Memory told said any = absurd (told refl)
 
-  by_group : (groups : List (List Location)) (q r : Refused) → IsNumbered groups q r → r ≢ refused.Memory → q ≢ refused.Memory
+  by_group : (groups : List (List Location)) (q r : Refused) → r ≡ numbered_by (first_store groups) q → r ≢ refused.Memory → q ≢ refused.Memory
   by_group groups refused.Memory r is told same = told is
   by_group groups refused.Missing r is told same = absurd (cc)
   by_group groups (refused.Damaged j y) r is told same = absurd (cc)

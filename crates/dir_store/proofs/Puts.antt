@@ -87,7 +87,7 @@ module _ (id : List ℕ) (is : IsId id) (one : (a b : List ℕ) → IsId b → p
     said_put b q differ None = keeps_itself (said_by None) q
     said_put b q differ (Some m) =
         let other = at_other m id (Some b) q differ in
-        record { denied = λ h. other ∙ h; shown = λ x h. other ∙ h; longer = λ n h. (h.0, other ∙ h.1, h.2); taken = λ x h. other ∙ h }
+        record { denied = λ h. other ∙ h; shown = λ x h. other ∙ h; longer = λ n h. (h.0, other ∙ h.1, h.2); taken = λ x h. other ∙ h; shown_by = λ k x h. (h.0, other ∙ h.1); longer_by = λ k n h. (h.0, (h.1.0, other ∙ h.1.1, h.1.2)) }
 
     pub put_said : (b : List ℕ) (old new : Option (Map (List ℕ))) (r : Result Unit IoFault) → OnOk r (PutsAtPath id b old new) → OnErr r (LeavesTemporary id old new) → (q : List ℕ) → q ≢ id
         → KeepsOf (said_by (option_map chunks old)) (said_by (option_map chunks new)) q

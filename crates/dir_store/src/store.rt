@@ -197,6 +197,10 @@ impl<F: Look> Store for DirStore<F> {
         self.read(id, out)
     }
 
+    fn giver(&self) -> usize {
+        0
+    }
+
     fn has(&mut self, id: &ChunkId) -> Result<bool, IoFault> {
         let path = id.path();
         self.folder.has(path.as_str())

@@ -12,14 +12,14 @@ use Rattle.chunk_sources.specs.declared.kit.Kit.{Kit}
 use Rattle.command_groups.proofs.Asked.{groups_got, groups_sent}
 use Rattle.command_groups.proofs.Stand.{fresh_tries, groups_stand_still, groups_try_still}
 use Rattle.command_groups.proofs.Words.{group_words}
-use Rattle.command_groups.specs.Asking.{GroupsDialed, with_retries}
+use Rattle.command_groups.specs.Asking.{with_retries}
 use Rattle.command_groups.specs.Groups.{stores_of}
 use Rattle.command_groups.specs.Opened.{locations_in, with_group}
 use Rattle.command_steps.proofs.Asking.{few_each}
 use Rattle.command_steps.proofs.Lacked.{same_length}
 use Rattle.command_steps.proofs.Lent.{store_rose}
 use Rattle.command_steps.specs.AnyStores.{IsKnown, place_in, source_faults}
-use Rattle.command_steps.specs.Asking.{AsksFew, SendsFronts}
+use Rattle.command_steps.specs.Asking.{AsksFew, EachDialed, SendsFronts}
 use Rattle.command_steps.specs.Seeds.{label_in}
 use Rattle.command_steps.specs.declared.any_store.AnyStore.{AnyStore}
 use Rattle.command_words.specs.declared.command.Location.{Location}
@@ -71,8 +71,8 @@ module _ {L V D K : Type 0} (look : LookWords L) (view : ViewWords V) (state : D
     kit_tries = groups_try_still look.place names.retries before.chain.stores after.chain.stores used.stores.places (fresh_tries (source_faults look.faults state) names.retries before.chain.stores is.fresh)
 
     -- only listed chunks were asked for
-    pub kit_sends : (a c : Option (List Traffic)) → c ≡ fold (with_group state) a after.chain.stores → GroupsDialed (SendsFronts (IsListedGet t.listing)) (λ s ended. Unit {0}) names.groups a c
-    kit_sends a c ended = groups_sent look.place state look.files names.retries (IsListedGet t.listing) before.chain.stores after.chain.stores names.groups a c is.unused kit_tries still used.stores.sends kit_still ended
+    pub kit_sends : (a c : Option (List Traffic)) → c ≡ fold (with_group state) a after.chain.stores → EachDialed (SendsFronts (IsListedGet t.listing)) (stores_of names.groups) a c
+    kit_sends a c ended = groups_sent look.place state names.retries (IsListedGet t.listing) before.chain.stores after.chain.stores names.groups a c is.unused kit_tries still used.stores.sends kit_still ended
 
   -- it can be given back as it could before
   pub kit_can : (c : Disk) {answer : Result Report ExtractFault} → KitUsed (group_words look state) view t never cache_never t0 old i (at_kit old i q) (at_kit new i j) answer → CanGiveKit look view c before → CanGiveKit look view c after
@@ -98,7 +98,7 @@ module _ {L V D K : Type 0} (look : LookWords L) (view : ViewWords V) (state : D
 
     pub kit_gets : (spared : ℕ → Bool) → ((w : ℕ) → w < t.plan.wants → spared w ≡ true → IsSomeAnd d.files (λ m. IsSparedOnDisk sure many d e m cache o t.listing z t.plan w))
         → (a c : Option (List Traffic)) → c ≡ fold (with_group state) a after.chain.stores
-        → GroupsDialed (AsksFew method.Get (with_retries names.retries (worker_asks t.listing t.plan spared i))) (AsksFew method.Get (with_retries names.retries (worker_asks t.listing t.plan spared i))) names.groups a c
+        → EachDialed (AsksFew method.Get (with_retries names.retries (worker_asks t.listing t.plan spared i))) (stores_of names.groups) a c
     kit_gets spared are a c ended =
         let xs = before.seeds.items in
         let ys = after.seeds.items in
@@ -114,4 +114,4 @@ module _ {L V D K : Type 0} (look : LookWords L) (view : ViewWords V) (state : D
         let asks = worker_asks t.listing t.plan spared i in
         let places = group_place (place_in look.place) in
         let few = few_each (group_words look state).asked asks before.chain.stores after.chain.stores (same_length places before.chain.stores after.chain.stores (sym used.stores.places)) (λ q n. asked.most q n) in
-        groups_got look.place state look.files names.retries asks before.chain.stores after.chain.stores names.groups a c is.unused (kit_tries z.images is used) (still z.images is used) few (kit_still z.images is used) ended
+        groups_got look.place state names.retries asks before.chain.stores after.chain.stores names.groups a c is.unused (kit_tries z.images is used) (still z.images is used) few (kit_still z.images is used) ended

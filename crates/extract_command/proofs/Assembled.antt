@@ -32,10 +32,10 @@ use Rattle.store_chain.specs.declared.query.Query.{Query}
 use Rattle.store_chain.specs.declared.refused.Refused.{Refused}
 use Rattle.store_chain.specs.declared.refused.Refused.TheVariants as refused
 use Rattle.extract_command.proofs.Seeded.{given_had, had_given}
-use Rattle.command_groups.proofs.Lacked.{damaged_is, lacks_numbered}
+use Rattle.command_groups.proofs.Lacked.{have_lacked_in, lacks_numbered}
 use Rattle.command_groups.specs.Groups.{first_store, member_files}
 use Rattle.command_groups.specs.Lacking.{GroupsLack}
-use Rattle.command_groups.specs.Numbers.{IsNumbered, answer_of_stores, refused_of_stores}
+use Rattle.command_groups.specs.Numbers.{answer_of_stores, refused_of_stores}
 use Rattle.command_steps.proofs.Taken.{at_name_twice}
 use Rattle.command_steps.specs.Sources.{Storage}
 use Rattle.extract_command.specs.Extract.{Assembled, CacheLacksEntry, CanBeHad, ExtractStores, Into, IsLacking, IsTorn, Leaves, NoneAsked, NoneReached, OnlyHad, SeedHas, Seeds, StopsFailed, StopsSomewhere, Told, Undisturbed, WhereFolders, WhereMembers, answer_of_assembly, answer_of_taking, base_of, folder_of, old_of}
@@ -272,121 +272,111 @@ module _ (w v : Storage) (stores : ExtractStores) (cache : Option (List ℕ)) (o
   abbrev pub AllLack : Map (List ℕ) → Map (Map (List ℕ)) → List ℕ → ℕ → ChunkId → Refused → Type 0
   AllLack b n o k id r = LackingOver n o k id r × OthersLack b k id r
 
-  -- the groups' active stores at the end
-  module _ (active : List ℕ) (inside : (k : ℕ) → k < length stores.groups → slice_index active k < length (slice_index_or stores.groups k [])) where
-    -- the chunk of an entry is lacked for this reason, which names a group: the first store of one that failed is named, and the active store of one that gave something else
-    abbrev IsLackingFor : Map (List ℕ) → Map (Map (List ℕ)) → ℕ → ChunkId → Refused → Type 0
-    IsLackingFor b n k id by_group = IsLacking w v b n cache out l x stores k id (refused_of_stores stores.groups active by_group)
+  -- the chunk of an entry is lacked for this reason, told by the number of a store: of the first one of a group that failed, and of the one that gave something else
+  abbrev IsLackingFor : Map (List ℕ) → Map (Map (List ℕ)) → ℕ → ChunkId → Refused → Type 0
+  IsLackingFor b n k id by_group = IsLacking w v b n cache out l x stores k id (refused_of_stores stores.groups by_group)
 
-    -- where all is told
-    pub record Facts (r : Result Report ExtractFault) (b : Map (List ℕ)) (n : Map (Map (List ℕ))) (a : Map (List ℕ)) : Type 0 where
-      pub cs : List (Map (List ℕ))
-      pub cached : map n (folder_of cache) ≡ map Some cs
-      pub t : List ℕ
-      pub leaves : Leaves b a out t
-      pub assembles : Assembles l (NoneReached w v stores) before_it after_it r (old_of b out) t
-      pub lacks : IfErr r (LostAs (IsLackingFor b n))
-      pub only : WhereMembers n stores (λ fs. OnlyObtainable l (CanBeHad l (base_of b out l) b x (map chunks cs ++ map chunks fs)) before_it after_it r (old_of b out) t)
-      pub verdict : WhereMembers n stores (λ fs. Undisturbed d e n stores cache l cs fs → Verdict l (CanBeHad l (base_of b out l) b x (map chunks cs ++ map chunks fs)) r)
-      pub settled : WhereMembers n stores (λ fs. Undisturbed d e n stores cache l cs fs → After l (CanBeHad l (base_of b out l) b x (map chunks cs ++ map chunks fs)) (base_of b out l) t r)
+  -- where all is told
+  pub record Facts (r : Result Report ExtractFault) (b : Map (List ℕ)) (n : Map (Map (List ℕ))) (a : Map (List ℕ)) : Type 0 where
+    pub cs : List (Map (List ℕ))
+    pub cached : map n (folder_of cache) ≡ map Some cs
+    pub t : List ℕ
+    pub leaves : Leaves b a out t
+    pub assembles : Assembles l (NoneReached w v stores) before_it after_it r (old_of b out) t
+    pub lacks : IfErr r (LostAs (IsLackingFor b n))
+    pub only : WhereMembers n stores (λ fs. OnlyObtainable l (CanBeHad l (base_of b out l) b x (map chunks cs ++ map chunks fs)) before_it after_it r (old_of b out) t)
+    pub verdict : WhereMembers n stores (λ fs. Undisturbed d e n stores cache l cs fs → Verdict l (CanBeHad l (base_of b out l) b x (map chunks cs ++ map chunks fs)) r)
+    pub settled : WhereMembers n stores (λ fs. Undisturbed d e n stores cache l cs fs → After l (CanBeHad l (base_of b out l) b x (map chunks cs ++ map chunks fs)) (base_of b out l) t r)
 
-    abbrev AllFacts : Result Report ExtractFault → Type 0
-    AllFacts r = (b : Map (List ℕ)) (n : Map (Map (List ℕ))) (a : Map (List ℕ)) → d.files ≡ Some b → d.folders ≡ Some n → e.files ≡ Some a → Facts r b n a
+  abbrev AllFacts : Result Report ExtractFault → Type 0
+  AllFacts r = (b : Map (List ℕ)) (n : Map (Map (List ℕ))) (a : Map (List ℕ)) → d.files ≡ Some b → d.folders ≡ Some n → e.files ≡ Some a → Facts r b n a
 
-    told : (r : Result Report ExtractFault) (P : Map (List ℕ) → Map (List ℕ) → Map (Map (List ℕ)) → List (Map (List ℕ)) → Type 0) → AllFacts r → ((b : Map (List ℕ)) (n : Map (Map (List ℕ))) (a : Map (List ℕ)) (f : Facts r b n a) → P b a n f.cs) → Told d e cache P
-    told r P facts p = over_told d.files d.folders e.files _ (λ b n a x y z. let f = facts b n a x y z in (f.cs, f.cached, p b n a f))
+  told : (r : Result Report ExtractFault) (P : Map (List ℕ) → Map (List ℕ) → Map (Map (List ℕ)) → List (Map (List ℕ)) → Type 0) → AllFacts r → ((b : Map (List ℕ)) (n : Map (Map (List ℕ))) (a : Map (List ℕ)) (f : Facts r b n a) → P b a n f.cs) → Told d e cache P
+  told r P facts p = over_told d.files d.folders e.files _ (λ b n a x y z. let f = facts b n a x y z in (f.cs, f.cached, p b n a f))
 
-    -- what a refusal tells of each entry
-    only_had : (why : ExtractFault) (b : Map (List ℕ)) (n : Map (Map (List ℕ))) (a : Map (List ℕ)) (f : Facts (Err why) b n a) → KeepsBase l before_it after_it (base_of b out l) f.t → OnlyHad d e b n f.cs stores out l x f.t
-    only_had why b n a f keeps = λ fs there. only_base l (CanBeHad l (base_of b out l) b x (map chunks f.cs ++ map chunks fs)) before_it after_it why (old_of b out) f.t keeps (f.only fs there)
+  -- what a refusal tells of each entry
+  only_had : (why : ExtractFault) (b : Map (List ℕ)) (n : Map (Map (List ℕ))) (a : Map (List ℕ)) (f : Facts (Err why) b n a) → KeepsBase l before_it after_it (base_of b out l) f.t → OnlyHad d e b n f.cs stores out l x f.t
+  only_had why b n a f keeps = λ fs there. only_base l (CanBeHad l (base_of b out l) b x (map chunks f.cs ++ map chunks fs)) before_it after_it why (old_of b out) f.t keeps (f.only fs there)
 
-    pub assembled : (r : Result Report ExtractFault) → AllFacts r → IfErr r (TargetAs (FileRose d e out.name)) → IfErr r (StoreAs (λ s. StopsFailed w v stores l (first_store stores.groups s)))
-        → Assembled w v stores cache out l x (answer_of_stores stores.groups active (answer_of_assembly r))
-    assembled (Ok r) facts target store = told _ _ facts (λ b n a f. ((f.t, (f.leaves, f.assembles.1), f.assembles.0), f.only))
-    assembled (Err (faults.Missing k id)) facts target store = told _ _ facts (λ b n a f. ((f.t, (f.leaves, f.assembles.0), f.assembles.1, only_had (faults.Missing k id) b n a f f.assembles.0, f.settled), f.lacks, f.verdict))
-    assembled (Err (faults.Damaged k id s y)) facts target store = told _ _ facts (λ b n a f. ((f.t, (f.leaves, f.assembles.0), f.assembles.1, only_had (faults.Damaged k id s y) b n a f f.assembles.0, f.settled), f.lacks, f.verdict))
-    assembled (Err (faults.StoreFault s)) facts target store = (store, told _ _ facts (λ b n a f. ((f.t, (f.leaves, f.assembles), only_had (faults.StoreFault s) b n a f f.assembles), f.lacks.0, f.lacks.1, f.lacks.2)))
-    assembled (Err faults.TargetFault) facts target store = (target, told _ _ facts (λ b n a f. torn_there b a (OnlyHad d e b n f.cs stores out l x) f.t f.leaves (only_had faults.TargetFault b n a f) target f.assembles))
-    assembled (Err faults.Memory) facts target store = told _ _ facts (λ b n a f. somewhere b a (OnlyHad d e b n f.cs stores out l x) f.t f.leaves (only_had faults.Memory b n a f) f.assembles)
+  pub assembled : (r : Result Report ExtractFault) → AllFacts r → IfErr r (TargetAs (FileRose d e out.name)) → IfErr r (StoreAs (λ s. StopsFailed w v stores l (first_store stores.groups s)))
+      → Assembled w v stores cache out l x (answer_of_stores stores.groups (answer_of_assembly r))
+  assembled (Ok r) facts target store = told _ _ facts (λ b n a f. ((f.t, (f.leaves, f.assembles.1), f.assembles.0), f.only))
+  assembled (Err (faults.Missing k id)) facts target store = told _ _ facts (λ b n a f. ((f.t, (f.leaves, f.assembles.0), f.assembles.1, only_had (faults.Missing k id) b n a f f.assembles.0, f.settled), f.lacks, f.verdict))
+  assembled (Err (faults.Damaged k id s y)) facts target store = told _ _ facts (λ b n a f. ((f.t, (f.leaves, f.assembles.0), f.assembles.1, only_had (faults.Damaged k id s y) b n a f f.assembles.0, f.settled), f.lacks, f.verdict))
+  assembled (Err (faults.StoreFault s)) facts target store = (store, told _ _ facts (λ b n a f. ((f.t, (f.leaves, f.assembles), only_had (faults.StoreFault s) b n a f f.assembles), f.lacks.0, f.lacks.1, f.lacks.2)))
+  assembled (Err faults.TargetFault) facts target store = (target, told _ _ facts (λ b n a f. torn_there b a (OnlyHad d e b n f.cs stores out l x) f.t f.leaves (only_had faults.TargetFault b n a f) target f.assembles))
+  assembled (Err faults.Memory) facts target store = told _ _ facts (λ b n a f. somewhere b a (OnlyHad d e b n f.cs stores out l x) f.t f.leaves (only_had faults.Memory b n a f) f.assembles)
 
-    -- the store that is named is one of the group
-    numbered_in : (c : Query) (by_group : Refused) → GroupsLack stores.retries c w v stores.groups by_group → IsNumbered stores.groups by_group (refused_of_stores stores.groups active by_group)
-    numbered_in c refused.Missing h = refl
-    numbered_in c (refused.Damaged k y) h = damaged_is stores.retries c w v stores.groups active inside k y h
-    numbered_in c (refused.StoreFault k) h = refl
-    numbered_in c refused.Memory h = refl
+  lacking : (b : Map (List ℕ)) (n : Map (Map (List ℕ))) (k : ℕ) (id : ChunkId) (by_group : Refused) → AllLack b n (old_of b out) k id by_group → IsLackingFor b n k id by_group
+  lacking b n k id by_group h =
+      let c = chunk_of (kind_of l) id (size_of l k) in
+      record {
+        listed = h.0.0;
+        id_is = h.0.1;
+        said = have_lacked_in stores.retries c w v stores.groups by_group h.0.2;
+        lacks = λ fs told. lacks_numbered stores.groups c (map chunks fs) by_group (h.0.3 fs told);
+        copies = h.0.4;
+        seeds = h.1.0;
+        uncached = h.1.1;
+      }
 
-    lacking : (b : Map (List ℕ)) (n : Map (Map (List ℕ))) → WhereFolders n stores (λ fs. (k : ℕ) → slice_index active k ≡ 0) → (k : ℕ) (id : ChunkId) (by_group : Refused) → AllLack b n (old_of b out) k id by_group → IsLackingFor b n k id by_group
-    lacking b n first k id by_group h =
-        let c = chunk_of (kind_of l) id (size_of l k) in
-        record {
-          listed = h.0.0;
-          id_is = h.0.1;
-          said = (by_group, numbered_in c by_group h.0.2, h.0.2);
-          lacks = λ fs told. lacks_numbered stores.groups active (first fs told) c (map chunks fs) by_group (refused_of_stores stores.groups active by_group) refl (h.0.3 fs told);
-          copies = h.0.4;
-          seeds = h.1.0;
-          uncached = h.1.1;
-        }
-
-    module _ (P : List (Map (List ℕ)) → List ℕ → ℕ → Type 0) (had : (b : Map (List ℕ)) → d.files ≡ Some b → (maps : List (Map (List ℕ))) (base : List ℕ) (i : ℕ) → i < count_of l → P maps base i → CanBeHad l base b x maps i)
-        (back : (b : Map (List ℕ)) → d.files ≡ Some b → DiskQuiet d e → (maps : List (Map (List ℕ))) (base : List ℕ) (i : ℕ) → i < count_of l → CanBeHad l base b x maps i → P maps base i) where
-      pub facts_of : (r : Result Report ExtractFault) (C : List (Map (List ℕ)) → Type 0) (t0 t1 : Option (List ℕ)) (U : Type 0) (f0 f1 : ℕ) (M N : List (Map (List ℕ)) → List (Map (List ℕ)) → Type 0)
-          → ((n : Map (Map (List ℕ))) → d.folders ≡ Some n → WhereFolders n stores (λ fs. (k : ℕ) → slice_index active k ≡ 0))
-          → IfSome d.folders (λ n. (cs : List (Map (List ℕ))) × (map n (folder_of cache) ≡ map Some cs) × C cs)
-          → IfSome d.files (λ m. t0 ≡ Some (old_of m out)) → is_some t0 ≡ is_some t1
-          → e.files ≡ option_map (λ m. at_name m out.name t1) (option_map (λ m. at_name m out.name None) d.files)
-          → ExcusesAs f0 f1 before_it after_it
-          → (U → NoneReached w v stores) → WhereTold t0 t1 (Assembles l U f0 f1 r)
-          → ((b : Map (List ℕ)) → d.files ≡ Some b → (n : Map (Map (List ℕ))) → d.folders ≡ Some n → IfSome t0 (λ o. IfErr r (LostAs (AllLack b n o))))
-          → ((b : Map (List ℕ)) → d.files ≡ Some b → (cached maps : List (Map (List ℕ))) → M cached maps → WhereTold t0 t1 (λ o t. OnlyObtainable l (CanBeHad l (resized o (image_length l)) b x (cached ++ maps)) f0 f1 r o t))
-          → ((cached maps : List (Map (List ℕ))) → N cached maps → IfSome t0 (λ o. Verdict l (P (cached ++ maps) (resized o (image_length l))) r))
-          → ((cached maps : List (Map (List ℕ))) → N cached maps → WhereTold t0 t1 (λ o t. After l (P (cached ++ maps) (resized o (image_length l))) (resized o (image_length l)) t r))
-          → ((b : Map (List ℕ)) → d.files ≡ Some b → (n : Map (Map (List ℕ))) → d.folders ≡ Some n → (fs : List (Map (List ℕ))) → maps_of (member_files stores.sure n) stores.groups ≡ Some fs → (cs : List (Map (List ℕ))) → C cs → M (map chunks cs) (map chunks fs))
-          → ((b : Map (List ℕ)) → d.files ≡ Some b → (n : Map (Map (List ℕ))) → d.folders ≡ Some n → (fs : List (Map (List ℕ))) → maps_of (member_files stores.sure n) stores.groups ≡ Some fs → (cs : List (Map (List ℕ))) → C cs → Undisturbed d e n stores cache l cs fs → N (map chunks cs) (map chunks fs)) → AllFacts r
-      facts_of r C t0 t1 U f0 f1 M N first cached took told left excused none bytes lacks only exactly after shown quiet b n a is y z =
-          let g : (cs : List (Map (List ℕ))) × (map n (folder_of cache) ≡ map Some cs) × C cs = subst (λ o. IfSome o (λ n. (cs : List (Map (List ℕ))) × (map n (folder_of cache) ≡ map Some cs) × C cs)) y cached in
-          let o : t0 ≡ Some (old_of b out) = subst (λ o. IfSome o (λ m. t0 ≡ Some (old_of m out))) is took in
-          let lf : e.files ≡ option_map (λ m. at_name m out.name t1) (option_map (λ m. at_name m out.name None) (Some b)) =
-          subst (λ s. e.files ≡ option_map (λ m. at_name m out.name t1) (option_map (λ m. at_name m out.name None) s)) is left in
-          go (old_of b out) t0 t1 o (subst (λ s. is_some s ≡ is_some t1) o told) (sym z ∙ lf) g.0 g.1 bytes (lacks b is n y) (λ fs there. only b is (map chunks g.0) (map chunks fs) (shown b is n y fs there g.0 g.2)) (λ fs there k. exactly (map chunks g.0) (map chunks fs) (quiet b is n y fs there g.0 g.2 k))
-          (λ fs there k. after (map chunks g.0) (map chunks fs) (quiet b is n y fs there g.0 g.2 k)) refl where
-            go : (old : List ℕ) (s0 s1 : Option (List ℕ)) → s0 ≡ Some old → true ≡ is_some s1 → Some a ≡ Some (at_name (at_name b out.name None) out.name s1)
-                → (cs : List (Map (List ℕ))) → map n (folder_of cache) ≡ map Some cs → WhereTold s0 s1 (Assembles l U f0 f1 r) → IfSome s0 (λ o. IfErr r (LostAs (AllLack b n o)))
-                → WhereMembers n stores (λ fs. WhereTold s0 s1 (λ o t. OnlyObtainable l (CanBeHad l (resized o (image_length l)) b x (map chunks cs ++ map chunks fs)) f0 f1 r o t))
-                → WhereMembers n stores (λ fs. Undisturbed d e n stores cache l cs fs → IfSome s0 (λ o. Verdict l (P (map chunks cs ++ map chunks fs) (resized o (image_length l))) r))
-                → WhereMembers n stores (λ fs. Undisturbed d e n stores cache l cs fs → WhereTold s0 s1 (λ o t. After l (P (map chunks cs ++ map chunks fs) (resized o (image_length l))) (resized o (image_length l)) t r))
-                → old ≡ old_of b out → Facts r b n a
-            go old None s1 same is_told are cs shelf bs ls only verdict settled at = absurd (cc)
-            go old (Some o) None same is_told are cs shelf bs ls only verdict settled at = absurd (cc)
-            go old (Some o) (Some t) same is_told are cs shelf bs ls only verdict settled at =
-                let was : o ≡ old_of b out = cc in
-                over o was bs ls only verdict settled where
-                  over : (p : List ℕ) → p ≡ old_of b out → Assembles l U f0 f1 r p t → IfErr r (LostAs (AllLack b n p))
-                      → WhereMembers n stores (λ fs. OnlyObtainable l (CanBeHad l (resized p (image_length l)) b x (map chunks cs ++ map chunks fs)) f0 f1 r p t)
-                      → WhereMembers n stores (λ fs. Undisturbed d e n stores cache l cs fs → Verdict l (P (map chunks cs ++ map chunks fs) (resized p (image_length l))) r)
-                      → WhereMembers n stores (λ fs. Undisturbed d e n stores cache l cs fs → After l (P (map chunks cs ++ map chunks fs) (resized p (image_length l))) (resized p (image_length l)) t r) → Facts r b n a
-                  over p was bs ls only verdict settled =
-                      record {
-                        cs = cs;
-                        cached = shelf;
-                        t = t;
-                        leaves = ap (λ o. unwrap_or o a) are ∙ at_name_twice b out.name None (Some t);
-                        assembles = subst (λ (q : List ℕ). Assembles l (NoneReached w v stores) before_it after_it r q t) was (assembles_as l U (NoneReached w v stores) f0 f1 before_it after_it r p t none excused bs);
-                        lacks = lost_on (AllLack b n (old_of b out)) (IsLackingFor b n) (lacking b n (first n y)) r (subst (λ (q : List ℕ). IfErr r (LostAs (AllLack b n q))) was ls);
-                        only = λ fs there.
-                            let maps = map chunks cs ++ map chunks fs in
-                            subst (λ (q : List ℕ). OnlyObtainable l (CanBeHad l (resized q (image_length l)) b x maps) before_it after_it r q t) was
-                            (only_as l (CanBeHad l (resized p (image_length l)) b x maps) (CanBeHad l (resized p (image_length l)) b x maps) f0 f1 before_it after_it (λ i lt h. h) excused r p t
-                            (only fs there));
-                        verdict = λ fs there k.
-                            let maps = map chunks cs ++ map chunks fs in
-                            subst (λ (q : List ℕ). Verdict l (CanBeHad l (resized q (image_length l)) b x maps) r) was
-                            (verdict_as l (P maps (resized p (image_length l))) (CanBeHad l (resized p (image_length l)) b x maps) (had b is maps (resized p (image_length l)))
-                            (back b is k.quiet maps (resized p (image_length l))) r (lost_on (AllLack b n p) (λ i id y. i < count_of l) (λ i id y h. h.0.0) r ls) (verdict fs there k));
-                        settled = λ fs there k.
-                            let maps = map chunks cs ++ map chunks fs in
-                            subst (λ (q : List ℕ). After l (CanBeHad l (resized q (image_length l)) b x maps) (resized q (image_length l)) t r) was
-                            (after_as l (P maps (resized p (image_length l))) (CanBeHad l (resized p (image_length l)) b x maps) (resized p (image_length l)) t (had b is maps (resized p (image_length l)))
-                            (back b is k.quiet maps (resized p (image_length l))) r (settled fs there k));
-                      }
+  module _ (P : List (Map (List ℕ)) → List ℕ → ℕ → Type 0) (had : (b : Map (List ℕ)) → d.files ≡ Some b → (maps : List (Map (List ℕ))) (base : List ℕ) (i : ℕ) → i < count_of l → P maps base i → CanBeHad l base b x maps i)
+      (back : (b : Map (List ℕ)) → d.files ≡ Some b → DiskQuiet d e → (maps : List (Map (List ℕ))) (base : List ℕ) (i : ℕ) → i < count_of l → CanBeHad l base b x maps i → P maps base i) where
+    pub facts_of : (r : Result Report ExtractFault) (C : List (Map (List ℕ)) → Type 0) (t0 t1 : Option (List ℕ)) (U : Type 0) (f0 f1 : ℕ) (M N : List (Map (List ℕ)) → List (Map (List ℕ)) → Type 0)
+        → IfSome d.folders (λ n. (cs : List (Map (List ℕ))) × (map n (folder_of cache) ≡ map Some cs) × C cs)
+        → IfSome d.files (λ m. t0 ≡ Some (old_of m out)) → is_some t0 ≡ is_some t1
+        → e.files ≡ option_map (λ m. at_name m out.name t1) (option_map (λ m. at_name m out.name None) d.files)
+        → ExcusesAs f0 f1 before_it after_it
+        → (U → NoneReached w v stores) → WhereTold t0 t1 (Assembles l U f0 f1 r)
+        → ((b : Map (List ℕ)) → d.files ≡ Some b → (n : Map (Map (List ℕ))) → d.folders ≡ Some n → IfSome t0 (λ o. IfErr r (LostAs (AllLack b n o))))
+        → ((b : Map (List ℕ)) → d.files ≡ Some b → (cached maps : List (Map (List ℕ))) → M cached maps → WhereTold t0 t1 (λ o t. OnlyObtainable l (CanBeHad l (resized o (image_length l)) b x (cached ++ maps)) f0 f1 r o t))
+        → ((cached maps : List (Map (List ℕ))) → N cached maps → IfSome t0 (λ o. Verdict l (P (cached ++ maps) (resized o (image_length l))) r))
+        → ((cached maps : List (Map (List ℕ))) → N cached maps → WhereTold t0 t1 (λ o t. After l (P (cached ++ maps) (resized o (image_length l))) (resized o (image_length l)) t r))
+        → ((b : Map (List ℕ)) → d.files ≡ Some b → (n : Map (Map (List ℕ))) → d.folders ≡ Some n → (fs : List (Map (List ℕ))) → maps_of (member_files stores.sure n) stores.groups ≡ Some fs → (cs : List (Map (List ℕ))) → C cs → M (map chunks cs) (map chunks fs))
+        → ((b : Map (List ℕ)) → d.files ≡ Some b → (n : Map (Map (List ℕ))) → d.folders ≡ Some n → (fs : List (Map (List ℕ))) → maps_of (member_files stores.sure n) stores.groups ≡ Some fs → (cs : List (Map (List ℕ))) → C cs → Undisturbed d e n stores cache l cs fs → N (map chunks cs) (map chunks fs)) → AllFacts r
+    facts_of r C t0 t1 U f0 f1 M N cached took told left excused none bytes lacks only exactly after shown quiet b n a is y z =
+        let g : (cs : List (Map (List ℕ))) × (map n (folder_of cache) ≡ map Some cs) × C cs = subst (λ o. IfSome o (λ n. (cs : List (Map (List ℕ))) × (map n (folder_of cache) ≡ map Some cs) × C cs)) y cached in
+        let o : t0 ≡ Some (old_of b out) = subst (λ o. IfSome o (λ m. t0 ≡ Some (old_of m out))) is took in
+        let lf : e.files ≡ option_map (λ m. at_name m out.name t1) (option_map (λ m. at_name m out.name None) (Some b)) =
+        subst (λ s. e.files ≡ option_map (λ m. at_name m out.name t1) (option_map (λ m. at_name m out.name None) s)) is left in
+        go (old_of b out) t0 t1 o (subst (λ s. is_some s ≡ is_some t1) o told) (sym z ∙ lf) g.0 g.1 bytes (lacks b is n y) (λ fs there. only b is (map chunks g.0) (map chunks fs) (shown b is n y fs there g.0 g.2)) (λ fs there k. exactly (map chunks g.0) (map chunks fs) (quiet b is n y fs there g.0 g.2 k))
+        (λ fs there k. after (map chunks g.0) (map chunks fs) (quiet b is n y fs there g.0 g.2 k)) refl where
+          go : (old : List ℕ) (s0 s1 : Option (List ℕ)) → s0 ≡ Some old → true ≡ is_some s1 → Some a ≡ Some (at_name (at_name b out.name None) out.name s1)
+              → (cs : List (Map (List ℕ))) → map n (folder_of cache) ≡ map Some cs → WhereTold s0 s1 (Assembles l U f0 f1 r) → IfSome s0 (λ o. IfErr r (LostAs (AllLack b n o)))
+              → WhereMembers n stores (λ fs. WhereTold s0 s1 (λ o t. OnlyObtainable l (CanBeHad l (resized o (image_length l)) b x (map chunks cs ++ map chunks fs)) f0 f1 r o t))
+              → WhereMembers n stores (λ fs. Undisturbed d e n stores cache l cs fs → IfSome s0 (λ o. Verdict l (P (map chunks cs ++ map chunks fs) (resized o (image_length l))) r))
+              → WhereMembers n stores (λ fs. Undisturbed d e n stores cache l cs fs → WhereTold s0 s1 (λ o t. After l (P (map chunks cs ++ map chunks fs) (resized o (image_length l))) (resized o (image_length l)) t r))
+              → old ≡ old_of b out → Facts r b n a
+          go old None s1 same is_told are cs shelf bs ls only verdict settled at = absurd (cc)
+          go old (Some o) None same is_told are cs shelf bs ls only verdict settled at = absurd (cc)
+          go old (Some o) (Some t) same is_told are cs shelf bs ls only verdict settled at =
+              let was : o ≡ old_of b out = cc in
+              over o was bs ls only verdict settled where
+                over : (p : List ℕ) → p ≡ old_of b out → Assembles l U f0 f1 r p t → IfErr r (LostAs (AllLack b n p))
+                    → WhereMembers n stores (λ fs. OnlyObtainable l (CanBeHad l (resized p (image_length l)) b x (map chunks cs ++ map chunks fs)) f0 f1 r p t)
+                    → WhereMembers n stores (λ fs. Undisturbed d e n stores cache l cs fs → Verdict l (P (map chunks cs ++ map chunks fs) (resized p (image_length l))) r)
+                    → WhereMembers n stores (λ fs. Undisturbed d e n stores cache l cs fs → After l (P (map chunks cs ++ map chunks fs) (resized p (image_length l))) (resized p (image_length l)) t r) → Facts r b n a
+                over p was bs ls only verdict settled =
+                    record {
+                      cs = cs;
+                      cached = shelf;
+                      t = t;
+                      leaves = ap (λ o. unwrap_or o a) are ∙ at_name_twice b out.name None (Some t);
+                      assembles = subst (λ (q : List ℕ). Assembles l (NoneReached w v stores) before_it after_it r q t) was (assembles_as l U (NoneReached w v stores) f0 f1 before_it after_it r p t none excused bs);
+                      lacks = lost_on (AllLack b n (old_of b out)) (IsLackingFor b n) (lacking b n) r (subst (λ (q : List ℕ). IfErr r (LostAs (AllLack b n q))) was ls);
+                      only = λ fs there.
+                          let maps = map chunks cs ++ map chunks fs in
+                          subst (λ (q : List ℕ). OnlyObtainable l (CanBeHad l (resized q (image_length l)) b x maps) before_it after_it r q t) was
+                          (only_as l (CanBeHad l (resized p (image_length l)) b x maps) (CanBeHad l (resized p (image_length l)) b x maps) f0 f1 before_it after_it (λ i lt h. h) excused r p t
+                          (only fs there));
+                      verdict = λ fs there k.
+                          let maps = map chunks cs ++ map chunks fs in
+                          subst (λ (q : List ℕ). Verdict l (CanBeHad l (resized q (image_length l)) b x maps) r) was
+                          (verdict_as l (P maps (resized p (image_length l))) (CanBeHad l (resized p (image_length l)) b x maps) (had b is maps (resized p (image_length l)))
+                          (back b is k.quiet maps (resized p (image_length l))) r (lost_on (AllLack b n p) (λ i id y. i < count_of l) (λ i id y h. h.0.0) r ls) (verdict fs there k));
+                      settled = λ fs there k.
+                          let maps = map chunks cs ++ map chunks fs in
+                          subst (λ (q : List ℕ). After l (CanBeHad l (resized q (image_length l)) b x maps) (resized q (image_length l)) t r) was
+                          (after_as l (P maps (resized p (image_length l))) (CanBeHad l (resized p (image_length l)) b x maps) (resized p (image_length l)) t (had b is maps (resized p (image_length l)))
+                          (back b is k.quiet maps (resized p (image_length l))) r (settled fs there k));
+                    }

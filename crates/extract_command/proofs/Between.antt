@@ -10,13 +10,13 @@ use Rattle.chunk_sources.specs.Caches.{Stocked, TakesListed, cached_in, seen}
 use Rattle.chunk_sources.specs.declared.kit.Kit.{Kit}
 use Rattle.chunk_store.specs.Folders.{chunks}
 use Rattle.command_outcome.specs.declared.outcome.Outcome.TheVariants as ends
-use Rattle.command_groups.proofs.Asked.{groups_undialed}
 use Rattle.command_groups.proofs.Words.{group_words}
 use Rattle.command_groups.specs.Asking.{with_retries}
 use Rattle.command_groups.specs.Groups.{stores_of}
 use Rattle.command_steps.proofs.Cached.{given_reads}
 use Rattle.command_steps.proofs.Consulted.{reads_twice}
 use Rattle.command_steps.proofs.Dialed.{dials_twice}
+use Rattle.command_steps.proofs.Asking.{none_dialed}
 use Rattle.command_steps.specs.Asking.{AsksFew, SendsFronts}
 use Rattle.command_steps.specs.Cache.{folders_with, with_cache}
 use Rattle.command_steps.specs.Sources.{Consults, DialsStores, Storage, storage}
@@ -128,6 +128,6 @@ module _ (stores : ExtractStores) (cache : Option (List ℕ)) (out : Into) (l : 
     planned = plan;
     gets = λ spared are.
         let few = AsksFew method.Get (with_retries stores.retries (worker_asks l p spared 0)) in
-        (k.ended, groups_undialed few few (λ s id. omega arith) (λ s id. omega arith) stores.groups k.ended, refl);
-    sends = (k.ended, groups_undialed (SendsFronts (IsListedGet l)) (λ s ended. Unit {0}) (λ s n t lt. absurd (omega (arith, lt))) (λ s. tt) stores.groups k.ended, refl);
+        (k.ended, none_dialed few (λ s id. omega arith) (stores_of stores.groups) k.ended, refl);
+    sends = (k.ended, none_dialed (SendsFronts (IsListedGet l)) (λ s n t lt. absurd (omega (arith, lt))) (stores_of stores.groups) k.ended, refl);
   }

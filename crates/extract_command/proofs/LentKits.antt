@@ -17,11 +17,10 @@ use Rattle.command_steps.proofs.SeedsOpened.{all_known_later}
 use Rattle.command_steps.proofs.SeedsUsed.{viewed_names}
 use Rattle.command_steps.proofs.Used.{uses_none, uses_twice, uses_within}
 use Rattle.command_groups.proofs.Asked.{groups_turn_dialed}
-use Rattle.command_groups.specs.Asking.{GroupsDialed, WorkersGroupsDialed}
 use Rattle.command_groups.specs.Groups.{stores_of}
 use Rattle.command_groups.specs.Opened.{AreUnused, IsFresh, files_in, locations_in, with_group}
 use Rattle.command_steps.specs.AnyStores.{IsKnown, location_in, source_faults, source_files}
-use Rattle.command_steps.specs.Asking.{EachDialed}
+use Rattle.command_steps.specs.Asking.{EachDialed, WorkersDialed}
 use Rattle.command_steps.specs.Cache.{folders_with, with_cache}
 use Rattle.command_steps.specs.Seeds.{IsViewed, SeedsKnown, label_in}
 use Rattle.command_steps.specs.Sources.{Consults, Storage, location_files, storage}
@@ -300,10 +299,10 @@ module _ {L V D K : Type 0} (look : LookWords L) (view : ViewWords V) where
         (kits_added d e kits w are.0 before (λ q. omega (arith, here.disk.counts q, after q)) are.1)
 
     -- the connections of worker m and those after it have ended, and then those of the workers before it
-    pub workers_dialed : (P Q : ℕ → Server → List Traffic → Type 0) (groups : List (List Location)) (m : ℕ) (kits : List (Kit (Grouped (AnyStore L D K)) V)) (w u : Storage) (new : Option (List Traffic)) → AreGivenBack look view state kits w u
-        → ((i : ℕ) (k : Kit (Grouped (AnyStore L D K)) V) → i < length kits → (a b : Option (List Traffic)) → b ≡ fold (with_group state) a (slice_index_or kits i k).chain.stores → GroupsDialed (P (m + i)) (Q (m + i)) groups a b)
-        → WorkersGroupsDialed P Q m groups u.dial.ended new → WorkersGroupsDialed P Q (m + length kits) groups w.dial.ended new
-    workers_dialed P Q groups m kits w u new are each last = groups_turn_dialed (IsKitGiven look view state) P Q groups m kits w u new are (λ i k lt a b is. each i k lt a.dial.ended b.dial.ended is.ended) last
+    pub workers_dialed : (P : ℕ → Server → List Traffic → Type 0) (stores : List Location) (m : ℕ) (kits : List (Kit (Grouped (AnyStore L D K)) V)) (w u : Storage) (new : Option (List Traffic)) → AreGivenBack look view state kits w u
+        → ((i : ℕ) (k : Kit (Grouped (AnyStore L D K)) V) → i < length kits → (a b : Option (List Traffic)) → b ≡ fold (with_group state) a (slice_index_or kits i k).chain.stores → EachDialed (P (m + i)) stores a b)
+        → WorkersDialed P m stores u.dial.ended new → WorkersDialed P (m + length kits) stores w.dial.ended new
+    workers_dialed P stores m kits w u new are each last = groups_turn_dialed (IsKitGiven look view state) P stores m kits w u new are (λ i k lt a b is. each i k lt a.dial.ended b.dial.ended is.ended) last
 
     -- nothing was asked
     pub given_nothing : (names : List Location) (kits : List (Kit (Grouped (AnyStore L D K)) V)) (w v : Storage) → All (λ k. (a b : Option (List Traffic)) → b ≡ fold (with_group state) a k.chain.stores → EachDialed Nothing names a b) kits → AreGivenBack look view state kits w v

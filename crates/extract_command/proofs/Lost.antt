@@ -17,7 +17,9 @@ use Rattle.chunk_sources.specs.Sources as origins
 use Rattle.chunk_sources.specs.Sources.{SeedsFailed, counts_of, views_of}
 use Rattle.chunk_sources.specs.Wants.{Task}
 use Rattle.chunk_store.specs.Folders.{chunks}
+use Rattle.chunk_store.proofs.Said.{keeps_on}
 use Rattle.chunk_store.specs.Said.{KeepsOf, Said}
+use Rattle.chunk_store.specs.declared.store.Giver.{Giver}
 use Rattle.chunk_store.specs.declared.id.ChunkId.{ChunkId}
 use Rattle.chunk_store.specs.declared.store.Store.{Ghosts as StoreWords}
 use Rattle.chunk_store.specs.declared.shows.Shows.{Shows}
@@ -62,7 +64,7 @@ module _ (P : Lost → Type 0) (F : Type 0) where
   of_missing k n id i (refused.StoreFault s) is p = absurd (cc)
   of_missing k n id i refused.Memory is p = absurd (cc)
 
-  of_damaged : (k n : ℕ) (id i : ChunkId) (s : ℕ) (x : Shows) (r : Refused) → faults.Damaged k id s x ≡ fault_of n i r → P (lost n i r) → P (lost k id (refused.Damaged s x))
+  of_damaged : (k n : ℕ) (id i : ChunkId) (s : Giver) (x : Shows) (r : Refused) → faults.Damaged k id s x ≡ fault_of n i r → P (lost n i r) → P (lost k id (refused.Damaged s x))
   of_damaged k n id i s x refused.Missing is p = absurd (cc)
   of_damaged k n id i s x (refused.Damaged u y) is p =
       let at : n ≡ k = cc in
@@ -70,7 +72,7 @@ module _ (P : Lost → Type 0) (F : Type 0) where
       let store : u ≡ s = cc in
       let shown : y ≡ x = cc in
       subst (λ (m : ℕ). P (lost m id (refused.Damaged s x))) at (subst (λ (q : ChunkId). P (lost n q (refused.Damaged s x))) named
-      (subst (λ (v : ℕ). P (lost n i (refused.Damaged v x))) store (subst (λ (z : Shows). P (lost n i (refused.Damaged u z))) shown p)))
+      (subst (λ (v : Giver). P (lost n i (refused.Damaged v x))) store (subst (λ (z : Shows). P (lost n i (refused.Damaged u z))) shown p)))
   of_damaged k n id i s x (refused.StoreFault u) is p = absurd (cc)
   of_damaged k n id i s x refused.Memory is p = absurd (cc)
 
@@ -125,9 +127,6 @@ module _ (P : Lost → Type 0) (F : Type 0) where
 
 -- ---- the stores that lack the chunk of an entry
 
-keeps_twice : (a b c : Said) (id : List ℕ) → KeepsOf a b id → KeepsOf b c id → KeepsOf a c id
-keeps_twice a b c id u w = record { denied = λ h. w.denied (u.denied h); shown = λ x h. w.shown x (u.shown x h); longer = λ n h. w.longer n (u.longer n h); taken = λ x h. w.taken x (u.taken x h) }
-
 -- groups that stand so later stood so before
 module _ {S : Type 0} (location : S → List Location) (said : S → Said) (counted : S → ℕ) (retries : ℕ) (w v : Storage) where
   abbrev Standing : S → Type 0
@@ -143,7 +142,7 @@ module _ {S : Type 0} (location : S → List Location) (said : S → Said) (coun
       let last = stand 0 y (omega arith) in
       All-cons Standing x a
       (record {
-        says = λ id. keeps_twice (said x) (said y) (group_said w v (location x)) id (says.0 id) (subst (λ q. KeepsOf (said y) (group_said w v q) id) here (last.says id));
+        says = λ id. keeps_on (said x) (said y) (group_said w v (location x)) id (says.0 id) (subst (λ q. KeepsOf (said y) (group_said w v q) id) here (last.says id));
         rises = λ rose. subst (GroupRose retries w v) here (last.rises (rose_longer 0 (counted x) (counted y) more rose));
       })
       (stood a b rest says.1 (λ k. le (suc k)) (λ j q lt. stand (suc j) q (omega (arith, lt))))

@@ -24,19 +24,19 @@ use Rattle.chunk_store.specs.declared.store.Store.{Ghosts as StoreWords}
 use Rattle.command_steps.proofs.Cached.{given_adds, given_folders}
 use Rattle.command_steps.proofs.Dialed.{dials_none, dials_twice}
 use Rattle.command_groups.proofs.Given.{group_given_earlier, group_given_longer}
-use Rattle.command_groups.proofs.Quiet.{groups_quiet, folders_quiet, members_all_begin}
-use Rattle.command_groups.proofs.Seen.{first_active, groups_hold, groups_tell, chunks_agree}
-use Rattle.command_groups.proofs.Stand.{active_inside, folders_still, found_after, fresh_counts, fresh_first, groups_stand_still}
+use Rattle.command_groups.proofs.Quiet.{folders_quiet, members_all_begin}
+use Rattle.command_groups.proofs.Seen.{groups_hold, groups_tell, chunks_agree}
+use Rattle.command_groups.proofs.Stand.{found_after, fresh_counts, fresh_first, groups_stand_still}
 use Rattle.command_groups.proofs.Standing.{GroupStands, all_groups_stand}
 use Rattle.command_groups.proofs.Words.{group_words}
-use Rattle.command_groups.specs.Asking.{GroupsDialed, WorkersGroupsDialed, with_retries}
+use Rattle.command_groups.specs.Asking.{with_retries}
 use Rattle.command_groups.specs.Groups.{group_files, stores_of, member_files}
 use Rattle.command_groups.specs.Numbers.{answer_of_stores}
 use Rattle.command_groups.specs.Opened.{IsGroupGiven, files_in, locations_in, told_files, with_group}
 use Rattle.command_steps.proofs.Lent.{each_quiet, store_rose}
 use Rattle.command_steps.proofs.Numbers.{given_quiet, given_rose, rose_longer, rose_not_quiet}
 use Rattle.command_steps.specs.AnyStores.{source_faults}
-use Rattle.command_steps.specs.Asking.{AsksFew, EachDialed, SendsFronts}
+use Rattle.command_steps.specs.Asking.{AsksFew, EachDialed, SendsFronts, WorkersDialed}
 use Rattle.command_steps.specs.Seeds.{name_at}
 use Rattle.command_steps.specs.Cache.{CacheGiven, folders_with, with_cache}
 use Rattle.command_steps.specs.Seeds.{label_in}
@@ -257,13 +257,13 @@ module _ {L V D K : Type 0} (look : LookWords L) (view : ViewWords V) (state : D
   all_many : 1 + length x.rest ≡ length (x.k ∷ x.more)
   all_many = let many : length (x.j ∷ x.rest) ≡ length (x.k ∷ x.more) = x.made.kits in omega (arith, many)
 
-  abbrev Asked : (P Q : ℕ → Server → List Traffic → Type 0) → Type 0
-  Asked P Q = (i : ℕ) (q : Kit (Grouped (AnyStore L D K)) V) → i < length (x.j ∷ x.rest) → (a c : Option (List Traffic)) → c ≡ fold (with_group state) a (slice_index_or (x.j ∷ x.rest) i q).chain.stores → GroupsDialed (P i) (Q i) names.groups a c
+  abbrev Asked : (ℕ → Server → List Traffic → Type 0) → Type 0
+  Asked P = (i : ℕ) (q : Kit (Grouped (AnyStore L D K)) V) → i < length (x.j ∷ x.rest) → (a c : Option (List Traffic)) → c ≡ fold (with_group state) a (slice_index_or (x.j ∷ x.rest) i q).chain.stores → EachDialed (P i) (stores_of names.groups) a c
 
-  all_dialed : (P Q : ℕ → Server → List Traffic → Type 0) → Asked P Q → WorkersGroupsDialed P Q (length (x.k ∷ x.more)) names.groups k0.ended k1.ended
-  all_dialed P Q asked = subst (λ (m : ℕ). WorkersGroupsDialed P Q m names.groups k0.ended k1.ended) all_many
-      (workers_dialed look view state P Q names.groups 1 x.rest W2 x.first k1.ended x.kits (λ i q lt a c is.
-      let next : suc i ≡ 1 + i = omega arith in subst (λ (m : ℕ). GroupsDialed (P m) (Q m) names.groups a c) next (asked (suc i) q (omega (arith, lt)) a c is))
+  all_dialed : (P : ℕ → Server → List Traffic → Type 0) → Asked P → WorkersDialed P (length (x.k ∷ x.more)) (stores_of names.groups) k0.ended k1.ended
+  all_dialed P asked = subst (λ (m : ℕ). WorkersDialed P m (stores_of names.groups) k0.ended k1.ended) all_many
+      (workers_dialed look view state P (stores_of names.groups) 1 x.rest W2 x.first k1.ended x.kits (λ i q lt a c is.
+      let next : suc i ≡ 1 + i = omega arith in subst (λ (m : ℕ). EachDialed (P m) (stores_of names.groups) a c) next (asked (suc i) q (omega (arith, lt)) a c is))
       (k1.ended, asked 0 x.j (first_less x.j x.rest) x.first.dial.ended k1.ended x.ended, refl))
 
   module _ (p : Deal) (ls : List Listing) (plan : IsPlan l 1 p) (is : IsSeedIndex l p ls places) where
@@ -281,9 +281,9 @@ module _ {L V D K : Type 0} (look : LookWords L) (view : ViewWords V) (state : D
       workers = length (x.k ∷ x.more);
       plan = x.deal;
       planned = x.planned;
-      gets = λ spared are. all_dialed (λ i. AsksFew method.Get (with_retries names.retries (worker_asks l x.deal spared i))) (λ i. AsksFew method.Get (with_retries names.retries (worker_asks l x.deal spared i))) (λ i q lt.
+      gets = λ spared are. all_dialed (λ i. AsksFew method.Get (with_retries names.retries (worker_asks l x.deal spared i))) (λ i q lt.
           kit_gets look view state t d x.b e names never cache_never x.t0 i x.k q before after z (x.all i x.k (each_there i lt)) (x.made.each i x.k q (each_there i lt)) (added_all i q lt) (length (x.k ∷ x.more)) x.planned out is_here later took_bytes rose cache gives spared are);
-      sends = all_dialed (λ i. SendsFronts (IsListedGet l)) (λ i s ended. Unit {0}) (λ i q lt. kit_sends look view state t d x.b e names never cache_never x.t0 i x.k q before after images (x.all i x.k (each_there i lt)) (x.made.each i x.k q (each_there i lt)));
+      sends = all_dialed (λ i. SendsFronts (IsListedGet l)) (λ i q lt. kit_sends look view state t d x.b e names never cache_never x.t0 i x.k q before after images (x.all i x.k (each_there i lt)) (x.made.each i x.k q (each_there i lt)));
     }
 
     -- ---- what was assembled
@@ -341,7 +341,7 @@ module _ {L V D K : Type 0} (look : LookWords L) (view : ViewWords V) (state : D
     tries = kit_tries look view state t d x.b e names never cache_never x.t0 0 x.k x.j before after images one used
 
     found_now : IfSome d.folders (λ m. map (files_in look.files) now ≡ map (map (location_files m)) names.groups)
-    found_now = found_after look.files d.folders was now names.groups (folders_still look.place sure look.files state (IsListedGet l) was now (groups_stand_still look.place was now used.stores.places) used.stores.files used.stores.sends) one.found
+    found_now = found_after look.files d.folders was now names.groups used.stores.folders one.found
 
     stand : All (GroupStands location words.said words.faults names.retries w v) now
     stand = all_groups_stand sure look.files look.place look.faults state names.retries w v now names.groups now_at found_now tries given_stores
@@ -406,23 +406,12 @@ module _ {L V D K : Type 0} (look : LookWords L) (view : ViewWords V) (state : D
       one_size e0 cache l (map chunks cs) (map chunks fs) x.named still.one_size,
     )
 
-    -- the stores that are active afterwards
-    abbrev pub active : List ℕ
-    active = map (λ g. g.active) now
-
-    inside : (k : ℕ) → k < length names.groups → slice_index active k < length (slice_index_or names.groups k [])
-    inside = active_inside look.place now names.groups now_at each_inside
-
-    -- they are the first ones where the groups tell
-    first : (m : Map (Map (List ℕ))) → d.folders ≡ Some m → (fs : List (Map (List ℕ))) → map (group_files sure m) names.groups ≡ map Some fs → (k : ℕ) → slice_index active k ≡ 0
-    first m at fs there = first_active sure look.files now fs (used.stores.files ∙ told_at m at ∙ there) each_inside
-
-    pub run_assembled : Assembled w v sources cache out l z (answer_of_stores names.groups active (answer_of_assembly r))
-    run_assembled = assembled w v sources cache out l z active inside r
-        (facts_of w v sources cache out l z active inside (λ maps base. IsObtainable t base views maps)
+    pub run_assembled : Assembled w v sources cache out l z (answer_of_stores names.groups (answer_of_assembly r))
+    run_assembled = assembled w v sources cache out l z r
+        (facts_of w v sources cache out l z (λ maps base. IsObtainable t base views maps)
         (λ m told maps base i lt. had_of d x.b t z views one.viewed is_here m told base maps i lt)
         (λ m told still maps base i lt. obtainable_of d x.b t z views one.viewed is_here m told base maps i lt (quiet_opened still))
-        r (λ cs. cached_in e0 ≡ Some (map chunks cs)) x.t0 x.t1 (NoneUsed before after) x.f0 x.f1 IsShown IsStill first there_before took_bytes x.told left excused
+        r (λ cs. cached_in e0 ≡ Some (map chunks cs)) x.t0 x.t1 (NoneUsed before after) x.f0 x.f1 IsShown IsStill there_before took_bytes x.told left excused
         (λ none. (unreached none.0, shelf_now ∙ ap (λ s. folders_with s d'.folders) none.1)) x.made.bytes
         (λ m is_told ns y. lacks_told words location view t w v sources cache out z x.t0 from to used.stores located stand ns
         (λ fs at. groups_hold sure look.files was fs (told_at ns y ∙ at)) rose m

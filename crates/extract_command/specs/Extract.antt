@@ -34,10 +34,10 @@ use Rattle.dsy_base.specs.Counts.{Quiet}
 use Rattle.dsy_base.specs.Maps.{Map, at_name}
 use Rattle.dsy_base.specs.declared.fault.IoFault.{IoFault}
 use Rattle.dsy_base.specs.declared.fault.IoFault.TheVariants as io
-use Rattle.command_groups.specs.Asking.{WorkersGroupsDialed, with_retries}
+use Rattle.command_groups.specs.Asking.{with_retries}
 use Rattle.command_groups.specs.Groups.{first_store, group_files, member_files, stores_of}
 use Rattle.command_groups.specs.Lacking.{HaveLackedIn, LacksIn}
-use Rattle.command_steps.specs.Asking.{AsksFew, EachDialed, SendsFronts}
+use Rattle.command_steps.specs.Asking.{AsksFew, EachDialed, SendsFronts, WorkersDialed}
 use Rattle.command_steps.specs.Cache.{CacheOpened}
 use Rattle.command_indexes.specs.Gets.{IndexGot}
 use Rattle.command_steps.specs.Seeds.{IndexesRead, image_name}
@@ -351,9 +351,8 @@ IsSparedOnDisk sure workers d e before cache out l x p w =
 
 -- each worker asks each server for the chunk of an id at most once for each want of that id that it is dealt and that
 -- isn't spared, and the first worker once more for each want of that id that isn't spared; each time as often again as
--- there are retries. A server that is a group of its own is sent nothing but fronts of requests for chunks that the
--- index lists. All workers know of a fault of OUT, or of the cache, where there is one worker, or where no call on it
--- ever fails, as `sure` says
+-- there are retries. A server is sent nothing but fronts of requests for chunks that the index lists. All workers know
+-- of a fault of OUT, or of the cache, where there is one worker, or where no call on it ever fails, as `sure` says
 pub record GetsWants (sure : NeverFail) (w v : Storage) (stores : ExtractStores) (cache : Option (List ℕ)) (out : Into)
     (l : Listing) (x : Seeds) : Type 0 where
   pub workers : ℕ
@@ -361,11 +360,10 @@ pub record GetsWants (sure : NeverFail) (w v : Storage) (stores : ExtractStores)
   pub planned : IsPlan l workers plan
   pub gets : (spared : ℕ → Bool) → ((i : ℕ) → i < plan.wants → spared i ≡ true → IsSomeAnd w.disk.files
       (λ b. IsSparedOnDisk sure workers w.disk v.disk b cache out l x plan i)) →
-      WorkersGroupsDialed (λ k. AsksFew method.Get (with_retries stores.retries (worker_asks l plan spared k)))
-      (λ k. AsksFew method.Get (with_retries stores.retries (worker_asks l plan spared k))) workers stores.groups
-      w.dial.ended v.dial.ended
-  pub sends : WorkersGroupsDialed (λ k. SendsFronts (IsListedGet l)) (λ k s ended. Unit {0}) workers stores.groups
-      w.dial.ended v.dial.ended
+      WorkersDialed (λ k. AsksFew method.Get (with_retries stores.retries (worker_asks l plan spared k))) workers
+      (stores_of stores.groups) w.dial.ended v.dial.ended
+  pub sends : WorkersDialed (λ k. SendsFronts (IsListedGet l)) workers (stores_of stores.groups) w.dial.ended
+      v.dial.ended
 
 -- ---- making the image
 

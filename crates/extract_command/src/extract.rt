@@ -221,8 +221,7 @@ where
     let ended = assemble(rt, alloc, index, &planned.places, taken, kits, shelf);
     let held = of_kits(ended.kits, cache, ended.cache);
     let groups = stores.groups.as_slice();
-    let opened = held.stores.as_slice();
-    let answer = numbered(groups, opened, answer_of(ended.answer));
+    let answer = numbered(groups, answer_of(ended.answer));
     give_back(files, dial, held);
     files.give(target, ended.target);
     answer

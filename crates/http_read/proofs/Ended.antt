@@ -78,6 +78,8 @@ said_same s old new id is = record {
   shown = λ b. subst (λ o. IfSome o (Any (IsShowing s id b))) (sym is);
   longer = λ n. subst (λ o. IfSome o (Any (IsLonger s id n))) (sym is);
   taken = λ b. subst (λ o. IfSome o (Any (IsTaking s id b))) (sym is);
+  shown_by = λ k b h. (h.0, subst (λ o. IfSome o (Any (IsShowing s id b))) (sym is) h.1);
+  longer_by = λ k n h. (h.0, subst (λ o. IfSome o (Any (IsLonger s id n))) (sym is) h.1);
 }
 
 said_more : (P : Traffic → Type 0) (s : Server) (old new : Option (List Traffic)) (id : List ℕ) → AddsOne P old new
@@ -87,6 +89,8 @@ said_more P s old new id more = record {
   shown = λ b. any_of_added P _ old new more;
   longer = λ n. any_of_added P _ old new more;
   taken = λ b. any_of_added P _ old new more;
+  shown_by = λ k b h. (h.0, any_of_added P _ old new more h.1);
+  longer_by = λ k n h. (h.0, any_of_added P _ old new more h.1);
 }
 
 -- a call keeps what was said

@@ -26,4 +26,4 @@ adds_one s a (Some ended) new more =
 pub sends_one : (s : Server) (a : Ask) (old new : Option (List Traffic)) → (new ≡ old) ⊎ AddsOne (λ t. IsFront (ask_bytes s a) t.sent) old new
     → Sends (λ b. b ≡ a) (sent_on s old) (sent_on s new)
 sends_one s a old new (inl same) = subst (λ o. Sends (λ b. b ≡ a) (sent_on s old) (sent_on s o)) (sym same) (sends_still (λ b. b ≡ a) (sent_on s old))
-sends_one s a old new (inr more) = record { spells = refl; ended = adds_one s a old new more }
+sends_one s a old new (inr more) = λ n. record { spells = refl; ended = adds_one s a old new more }

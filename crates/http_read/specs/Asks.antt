@@ -45,7 +45,7 @@ ask_bytes s (Put id b) = asks_put s id b
 
 -- what was sent to the server on the connections that have ended, where they are told
 abbrev pub sent_on : Server → Option (List Traffic) → Sent
-sent_on s ended = record { spells = ask_bytes s; ended = option_map (map (λ t. t.sent)) ended }
+sent_on s ended n = record { spells = ask_bytes s; ended = option_map (map (λ t. t.sent)) ended }
 
 -- a front of these bytes was sent
 abbrev pub IsFront : List ℕ → List ℕ → Type 0

@@ -76,4 +76,6 @@ said_on s ended = record {
   shown = λ id b. IfSome ended (Any (IsShowing s id b));
   longer = λ id n. IfSome ended (Any (IsLonger s id n));
   taken = λ id b. IfSome ended (Any (IsTaking s id b));
+  shown_by = λ k id b. (k ≡ 0) × IfSome ended (Any (IsShowing s id b));
+  longer_by = λ k id n. (k ≡ 0) × IfSome ended (Any (IsLonger s id n));
 }

@@ -280,6 +280,10 @@ impl<D: Dial> Store for HttpStore<D> {
         self.fetch(id, out)
     }
 
+    fn giver(&self) -> usize {
+        0
+    }
+
     fn has(&mut self, id: &ChunkId) -> Result<bool, IoFault> {
         id_has_32_bytes(id);
         self.find(id)

@@ -12,6 +12,7 @@ use byte_forms::ranges::RangeFails;
 use cache_store::shelf::CacheShelf;
 use chunk_sources::kit::Kit;
 use chunk_store::shows::Shows;
+use chunk_store::store::Giver;
 use dir_store::store::DirStore;
 use dsy_base::folder::Folder;
 use dsy_base::look::Look;
@@ -27,6 +28,11 @@ use std::process::Abort;
 use std::sync::Wait;
 use std::thread::Threads;
 use store_chain::chain::Chain;
+
+const FIRST: Giver = Giver {
+    number: 0,
+    member: 0,
+};
 
 // A store that holds the second of each pair under the id of the first.
 fn store_of(rt: &impl Abort, alloc: Global, chunks: &[(&[u8], &[u8])]) -> DirStore<MemFolder> {
@@ -197,7 +203,7 @@ fn the_first_entry_that_cannot_be_had_is_named(rt: HostRuntime) {
     let damaged = Err(ExtractFault::Damaged {
         entry: 1,
         id,
-        store: 0,
+        store: FIRST,
         shows: Shows::Longer,
     });
     let kit = kit_of(&rt, alloc, None, &[(b"def", b"defg")], &[(b"def", b"de")]);

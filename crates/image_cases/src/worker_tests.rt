@@ -107,6 +107,10 @@ impl Store for GatedStore {
         self.chunks.get(id, out)
     }
 
+    fn giver(&self) -> usize {
+        0
+    }
+
     fn has(&mut self, id: &ChunkId) -> Result<bool, IoFault> {
         self.chunks.has(id)
     }

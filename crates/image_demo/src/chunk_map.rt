@@ -108,6 +108,10 @@ impl<'a> Store for SharedChunks<'a> {
         }
     }
 
+    fn giver(&self) -> usize {
+        0
+    }
+
     fn has(&mut self, id: &ChunkId) -> Result<bool, IoFault> {
         Ok(self.by_id.contains_key(id))
     }
@@ -161,6 +165,10 @@ impl Store for ChunkMap {
             None => Err(GetFault::Missing),
             Some(b) => read_whole(b, out),
         }
+    }
+
+    fn giver(&self) -> usize {
+        0
     }
 
     fn has(&mut self, id: &ChunkId) -> Result<bool, IoFault> {

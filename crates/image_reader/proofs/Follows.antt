@@ -1,8 +1,8 @@
 -- A read after others, and what both leave as one. `old` is the reader as it was first, `mid` and `new` are it before and
 -- after the last read.
-use Rattle.std.proofs.Common.{◌≡◌, ℕ, ◌+◌, ◌<◌, ◌≤◌, ◌++◌, ◌⊎◌, true, cond, List, length, refl, sym, ap, subst, ◌∙◌, arith, inl, inr}
+use Rattle.std.proofs.Common.{◌≡◌, ℕ, ◌+◌, ◌<◌, ◌++◌, ◌⊎◌, cond, List, sym, ap, subst, ◌∙◌, arith, inl, inr}
 use Rattle.std.proofs.lemmas.List.Sums.{sum_by-append}
-use Rattle.std.specs.List.{AllZip, count_by}
+use Rattle.std.specs.List.{AllZip}
 use Rattle.std.specs.Str.{bytes_eq}
 use Rattle.caibx_codec.specs.Listing.{Listing, id_of}
 use Rattle.chunk_store.specs.Asks.{Ask, Get}
@@ -16,7 +16,7 @@ use Rattle.image_reader.proofs.Got.{shown_still}
 use Rattle.image_reader.proofs.Steps.{kept_on, missed_on, misses_on}
 use Rattle.image_reader.proofs.Turns.{each_then}
 use Rattle.image_reader.specs.Covered.{IsCovered, IsCoveredGet, want_of, wants_to}
-use Rattle.image_reader.specs.Keeping.{has_want, missed, step}
+use Rattle.image_reader.specs.Keeping.{missed, step}
 use Rattle.image_reader.specs.Reading.{AsksWants, IsGot, IsHad, ReaderState, ReadsTo}
 use Rattle.image_reader.specs.declared.want.Want.{Want}
 

@@ -6,6 +6,7 @@ use Rattle.chunk_store.specs.Giving.{GivesChunk, IsChunk}
 use Rattle.chunk_store.specs.declared.id.DigestKind.{DigestKind}
 use Rattle.chunk_store.specs.declared.shows.Shows.{Shows}
 use Rattle.chunk_store.specs.declared.shows.Shows.TheVariants as shows
+use Rattle.chunk_store.specs.declared.store.Giver.{Giver}
 use Rattle.chunk_store.specs.declared.store.Store.{Ghosts as StoreWords}
 use Rattle.dsy_base.specs.Counts.{Quiet, Rose}
 use Rattle.dsy_base.specs.Maps.{Map}
@@ -61,13 +62,13 @@ module _ (kind : DigestKind) (w : Want) where
   all_none : (maps : List (Map (List ℕ))) → All (HoldsNone asked) maps → All (λ m. GivesIt m → ⊥) maps
   all_none maps all i d lt = none_gives (slice_index_or maps i d) (all i d lt)
 
-  pub lacks_not : (maps : List (Map (List ℕ))) (r : Refused) → LacksAll asked maps r → Any GivesIt maps → ((r ≡ reason.Missing) ⊎ ((s : ℕ) × (x : Shows) × (r ≡ reason.Damaged s x))) → ⊥
+  pub lacks_not : (maps : List (Map (List ℕ))) (r : Refused) → LacksAll asked maps r → Any GivesIt maps → ((r ≡ reason.Missing) ⊎ ((s : Giver) × (x : Shows) × (r ≡ reason.Damaged s x))) → ⊥
   lacks_not maps r h any (inl is) =
       let P : Refused → Type 0 = λ x. LacksAll asked maps x in
       all_or_one maps (all_none maps (subst P is h)) any
   lacks_not maps r h any (inr is) =
       let P : Refused → Type 0 = λ x. LacksAll asked maps x in
-      all_or_one maps (all_of_first (HoldsNone asked) (HoldsElse asked is.1) (λ m. Gives asked m → ⊥) (λ m. GivesIt m → ⊥) none_gives (else_gives is.1) not_given is.0 maps (subst P is.2 h)) any
+      all_or_one maps (all_of_first (HoldsNone asked) (HoldsElse asked is.1) (λ m. Gives asked m → ⊥) (λ m. GivesIt m → ⊥) none_gives (else_gives is.1) not_given is.0.number maps (subst P is.2 h).1) any
 
 rose_not : (a b : ℕ) → Rose a b → Quiet a b → ⊥
 rose_not a b (inl more) quiet = omega (arith, quiet.same)
@@ -112,7 +113,7 @@ module _ {S : Type 0} (store : StoreWords S) (at n : ℕ) (old now : ReaderState
           let P : DigestKind → Type 0 = λ k. Any (λ m. GivesChunk k (id_of old.index stop.entry) (size_of old.index stop.entry) (m (id_of old.index stop.entry))) maps in
           subst P (sym (stop.reads.kind ∙ kind)) (given stop.entry stop.covered)
 
-      cant_lack : (r : Refused) → MissFails store (want_of old.index stop.entry) r stop.before.chain now.chain → ((r ≡ reason.Missing) ⊎ ((s : ℕ) × (x : Shows) × (r ≡ reason.Damaged s x))) → ⊥
+      cant_lack : (r : Refused) → MissFails store (want_of old.index stop.entry) r stop.before.chain now.chain → ((r ≡ reason.Missing) ⊎ ((s : Giver) × (x : Shows) × (r ≡ reason.Damaged s x))) → ⊥
       cant_lack r (inl refuses) is = lacks_not stop.before.chain.kind (want_of old.index stop.entry) maps r (refuses.lacks maps (stop.reads.stores.held ∙ told)) one_gives is
       cant_lack r (inr memory) (inl is) = let both : reason.Memory ≡ reason.Missing = sym memory.0 ∙ is in absurd (cc)
       cant_lack r (inr memory) (inr is) = let both : reason.Memory ≡ reason.Damaged is.0 is.1 = sym memory.0 ∙ is.2 in absurd (cc)

@@ -5,6 +5,7 @@ ghost use Rattle.image_reader.specs.Refusals.{read_refused_of};
 
 use chunk_store::id::ChunkId;
 use chunk_store::shows::Shows;
+use chunk_store::store::Giver;
 use store_chain::refused::Refused;
 
 /// Why a range of an image isn't read.
@@ -20,7 +21,7 @@ pub enum ReadRefused {
     Damaged {
         entry: u64,
         id: ChunkId,
-        store: u32,
+        store: Giver,
         shows: Shows,
     },
     /// The first store that failed.

@@ -51,7 +51,7 @@ module _ {S : Type 0} (faults : S → ℕ) (never_fails : Bool) (sure : (s : S) 
   withholds_by : (kind : DigestKind) (id : ChunkId) (maps : Option (List (Map (List ℕ)))) (r : Refused) (old new : List S) → IfSome maps (λ ms. LacksAll (any_size kind id) ms r)
       → ((s : ℕ) → r ≡ refused.StoreFault s → Rose (slice_index (map faults old) s) (slice_index (map faults new) s)) → Withholds kind maps never_fails id.0 r
   withholds_by kind id maps refused.Missing old new h c = some_so maps (λ ms. LacksAll (any_size kind id) ms refused.Missing) (λ ms. given_by_stores kind ms id.0 ≡ None) (λ ms g. all_lack kind id ms g) h
-  withholds_by kind id maps (refused.Damaged s x) old new h c = some_so maps (λ ms. LacksAll (any_size kind id) ms (refused.Damaged s x)) (λ ms. given_by_stores kind ms id.0 ≡ None) (λ ms g. all_damaged kind id x s ms g) h
+  withholds_by kind id maps (refused.Damaged s x) old new h c = some_so maps (λ ms. LacksAll (any_size kind id) ms (refused.Damaged s x)) (λ ms. given_by_stores kind ms id.0 ≡ None) (λ ms g. all_damaged kind id x s.number ms g.1) h
   withholds_by kind id maps (refused.StoreFault s) old new h c = λ never. no_rise (slice_index (map faults old) s) (slice_index (map faults new) s) (none_at never old s) (none_at never new s) (c s refl)
   withholds_by kind id maps refused.Memory old new h c = tt
 

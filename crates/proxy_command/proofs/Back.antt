@@ -62,7 +62,7 @@ module _ {L D K : Type 0} (look : LookWords L) (state : D → DialState) where
   chain_asked groups again c d w v asks unused fresh at given =
       let stands = groups_stand_still look.place c.stores d.stores asks.keeps.places in (
         asks.times,
-        groups_asked look.place state look.files again asks.times (λ id. 0) IsChunkGet c.stores d.stores groups w.dial.ended v.dial.ended unused
+        groups_asked look.place state again asks.times (λ id. 0) IsChunkGet c.stores d.stores groups w.dial.ended v.dial.ended unused
             (groups_try_still look.place again c.stores d.stores asks.keeps.places (fresh_tries (source_faults look.faults state) again c.stores fresh)) stands
             asks.gets (none_more Words.queried c.stores d.stores asks.heads) asks.keeps.sends (stands ∙ at) given.ended,
       )

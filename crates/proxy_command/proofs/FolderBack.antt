@@ -7,12 +7,12 @@ use Rattle.cache_store.specs.Shelves.{Shelf}
 use Rattle.chunk_proxy.specs.Leaving.{IsChunkGet}
 use Rattle.chunk_store.specs.declared.id.DigestKind.{DigestKind}
 use Rattle.command_groups.proofs.Folders.{put_twice, was_put}
-use Rattle.command_groups.specs.Asking.{GroupDialed, GroupsDialed, with_retries}
+use Rattle.command_groups.specs.Asking.{with_retries}
 use Rattle.command_groups.specs.Groups.{stores_of}
 use Rattle.command_outcome.specs.declared.outcome.Outcome.{Outcome}
 use Rattle.command_steps.proofs.Cached.{given_adds}
 use Rattle.command_steps.proofs.Dialed.{dials_none}
-use Rattle.command_steps.specs.Asking.{Asks, AsksOnly, EachDialed}
+use Rattle.command_steps.specs.Asking.{AsksOnly, EachDialed}
 use Rattle.command_steps.specs.AnyStores.{IsKnown}
 use Rattle.command_steps.specs.Cache.{CacheGiven, with_cache}
 use Rattle.command_steps.specs.Sources.{storage}
@@ -26,9 +26,9 @@ use Rattle.dsy_base.specs.Links.{DialState, Traffic}
 use Rattle.dsy_base.specs.Maps.{Map, at_name}
 use Rattle.locked_proxy.specs.Chains.{chain_places}
 use Rattle.locked_shelf.specs.Keepings.{KeepsOpening}
-use Rattle.proxy_command.proofs.OfFolders.{folders_parts, groups_stand}
-use Rattle.proxy_command.specs.FolderChains.{KnowsChains, KnowsGroups, folder_locations}
-use Rattle.proxy_command.specs.ProxyServing.{GroupsGet, IsServedFrom, LookTypes, ProxyServed}
+use Rattle.proxy_command.proofs.OfFolders.{groups_stand}
+use Rattle.proxy_command.specs.FolderChains.{KnowsChains}
+use Rattle.proxy_command.specs.ProxyServing.{IsServedFrom, LookTypes, ProxyServed}
 use Rattle.server_commands.specs.Serving.{Heard}
 use Rattle.store_chain.specs.Chains.{Chained}
 use Rattle.store_group.specs.Groups.{Grouped, group_place}
@@ -49,22 +49,6 @@ module _ (gets heads : List ℕ → ℕ) where
   folders_only [] all o = refl
   folders_only (locations.Folder q ∷ g) all o = folders_only g all o
   folders_only (locations.Http host port prefix ∷ g) all o = absurd (false≢true all)
-
-  folders_asked : (g : List Location) → IsTrue (are_folders g) → (o : Option (List Traffic)) → EachDialed (Asks gets heads) g o o
-  folders_asked [] all o = refl
-  folders_asked (locations.Folder q ∷ g) all o = folders_asked g all o
-  folders_asked (locations.Http host port prefix ∷ g) all o = absurd (false≢true all)
-
-  group_dialed : (g : List Location) → IsTrue (are_folders g) → (o : Option (List Traffic)) → GroupDialed (AsksOnly gets heads IsChunkGet) (Asks gets heads) g o o
-  group_dialed [] all o = refl
-  group_dialed (s ∷ []) all o = folders_only (s ∷ []) all o
-  group_dialed (s ∷ t ∷ g) all o = folders_asked (s ∷ t ∷ g) all o
-
-  groups_dialed : (groups : List (List Location)) → IsTrue (are_folders (stores_of groups)) → (o : Option (List Traffic)) → GroupsDialed (AsksOnly gets heads IsChunkGet) (Asks gets heads) groups o o
-  groups_dialed [] all o = refl
-  groups_dialed (g ∷ groups) all o =
-      let both = folders_parts g (stores_of groups) all in
-      (o, group_dialed g both.0 o, groups_dialed groups both.1 o)
 
 -- ---- all of it
 
@@ -105,5 +89,5 @@ module _ (groups : List (List Location)) (again : ℕ) (cache : List ℕ) (kind 
     };
     dials = dials_none k;
     undialed = λ yes. refl;
-    asks = λ yes. (λ id. 0, groups_dialed (with_retries again (λ id. 0)) (with_retries again (λ id. 0)) groups all k.ended);
+    asks = λ yes. (λ id. 0, folders_only (with_retries again (λ id. 0)) (with_retries again (λ id. 0)) (stores_of groups) all k.ended);
   }

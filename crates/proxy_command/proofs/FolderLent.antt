@@ -1,17 +1,16 @@
 -- Chains of folders that were opened have the same stores. Where no look at a folder fails each group gives what the first
 -- of its folders holds.
-use Rattle.std.proofs.Common.{◌≡◌, ◌∙◌, ◌++◌, ◌&&◌, ◌||◌, not, ℕ, suc, ◌≤◌, Bool, true, false, List, [], ◌∷◌, All, length, map, slice_get, nat_le, is_some, Option, Some, None, IfSome, IsTrue, refl, sym, ap, subst, arith, slice_index_or}
+use Rattle.std.proofs.Common.{◌≡◌, ◌∙◌, ◌++◌, ◌&&◌, ◌||◌, not, ℕ, suc, ◌≤◌, Bool, true, false, List, [], ◌∷◌, All, length, map, slice_get, nat_le, is_some, Option, Some, None, IfSome, refl, sym, ap, arith, slice_index_or}
 use Rattle.std.proofs.lemmas.List.{length-map}
 use Rattle.std.specs.Option.{option_map}
-use Rattle.chunk_proxy.specs.States.{is_sure}
 use Rattle.chunk_store.specs.Asks.{sends_nothing}
 use Rattle.chunk_store.specs.Folders.{chunks}
 use Rattle.chunk_store.specs.Said.{just_one, said_by}
 use Rattle.chunk_store.specs.declared.id.DigestKind.{DigestKind}
 use Rattle.chunk_store.specs.declared.store.Store.{Ghosts as StoreWords}
-use Rattle.command_groups.specs.Groups.{group_files, stores_of}
+use Rattle.command_groups.specs.Groups.{stores_of}
 use Rattle.command_groups.specs.Opened.{IsFresh, files_in, locations_in}
-use Rattle.command_steps.specs.AnyStores.{IsKnown, location_in, source_faults, source_files}
+use Rattle.command_steps.specs.AnyStores.{location_in, source_files}
 use Rattle.command_steps.specs.Sources.{location_files}
 use Rattle.command_steps.specs.Stores.{are_folders, folder_name}
 use Rattle.command_steps.specs.declared.any_store.AnyStore.{AnyStore}
@@ -25,7 +24,7 @@ use Rattle.proxy_command.proofs.OfFolders.{all_across}
 use Rattle.proxy_command.specs.FolderChains.{AreOfFolders, any_group, any_store}
 use Rattle.proxy_command.specs.ProxyServing.{LookTypes, Surely, files_given, group_chunks, look_types, stores_never_fail, surely}
 use Rattle.proxy_command.specs.Reaching.{AreLent, chain_chunks, chain_files, sure_by_types}
-use Rattle.server_commands.specs.Serving.{Heard, heard}
+use Rattle.server_commands.specs.Serving.{heard}
 use Rattle.store_chain.specs.Chains.{Chained}
 use Rattle.store_group.specs.Groups.{Grouped, as_store, group_holds, group_place, no_chunks, of_one, of_store, places_of}
 
@@ -35,6 +34,8 @@ folder_words look = record {
   holds = λ s. option_map chunks (look.files s);
   members = λ s. just_one (option_map chunks (look.files s));
   folder = λ s. look.files s;
+  folders = λ s. [];
+  giver = λ s. 0;
   said = λ s. said_by (option_map chunks (look.files s));
   sent = λ s. sends_nothing;
   asked = λ s id. 0;

@@ -1,7 +1,7 @@
 -- Chains of groups of folders, as they stand for chains of stores of any kind.
-use Rattle.std.proofs.Common.{◌≡◌, ◌∙◌, ◌++◌, ◌+◌, ◌≤◌, ℕ, false, suc, true, List, [], ◌∷◌, All, length, map, IsSome, IsTrue, refl, sym, ap, subst, slice_index_or, arith}
+use Rattle.std.proofs.Common.{◌≡◌, ◌∙◌, ◌++◌, ◌+◌, ◌≤◌, ℕ, false, true, List, [], ◌∷◌, All, length, map, IsSome, IsTrue, refl, sym, ap, subst, slice_index_or, arith}
 use Rattle.std.proofs.lemmas.Bool.{false≢true, true≢false}
-use Rattle.std.proofs.lemmas.List.{append-nil, append_assoc, length-append, length-map, map-append}
+use Rattle.std.proofs.lemmas.List.{append_assoc, length-append, length-map, map-append}
 use Rattle.std.proofs.lemmas.List.Elements.{All-cons, All-head, All-nil, All-tail}
 use Rattle.command_groups.proofs.Decoded.{places_same}
 use Rattle.command_groups.proofs.Flat.{all_parts, places_more}
@@ -13,7 +13,6 @@ use Rattle.command_steps.proofs.Used.{all_more}
 use Rattle.command_steps.specs.AnyStores.{IsKnown, location_in}
 use Rattle.command_steps.specs.Stores.{are_folders, is_folder}
 use Rattle.command_steps.specs.declared.any_store.AnyStore.{AnyStore}
-use Rattle.command_steps.specs.declared.any_store.AnyStore.TheVariants as stores
 use Rattle.command_words.specs.declared.command.Location.{Location}
 use Rattle.command_words.specs.declared.command.Location.TheVariants as locations
 use Rattle.dsy_base.specs.Maps.{Map}

@@ -1,10 +1,9 @@
 -- How connections were served, by what the stores' type tells.
-use Rattle.std.proofs.Common.{◌≡◌, ◌∙◌, ◌++◌, ℕ, ◌≤◌, Bool, true, false, List, [], length, map, is_some, drop, Option, Some, None, IfSome, IsTrue, Result, Err, refl, sym, ap, subst, arith, inl}
-use Rattle.std.proofs.lemmas.Bool.{false≢true}
+use Rattle.std.proofs.Common.{◌≡◌, ◌++◌, ℕ, ◌≤◌, Bool, true, false, List, [], length, is_some, drop, Option, Some, None, IfSome, IsTrue, Result, Err, refl, sym, ap, subst, arith, inl}
 use Rattle.std.proofs.lemmas.List.{append-nil}
 use Rattle.std.proofs.lemmas.List.Elements.{All-nil}
 use Rattle.std.specs.Option.{option_map}
-use Rattle.chunk_proxy.specs.States.{ProxyFiles, told_of}
+use Rattle.chunk_proxy.specs.States.{told_of}
 use Rattle.chunk_proxy.specs.Talks.{proxy_protocol}
 use Rattle.chunk_store.specs.declared.id.DigestKind.{DigestKind}
 use Rattle.command_outcome.specs.declared.outcome.Outcome.{Outcome}

@@ -1,5 +1,5 @@
 -- The steps of a server of a cache, one after the other.
-use Rattle.std.proofs.Common.{◌≡◌, ◌==◌, ◌⊎◌, ℕ, Bool, List, Some, Result, Ok, Err, refl, inl, inr}
+use Rattle.std.proofs.Common.{◌≡◌, ◌==◌, ◌⊎◌, ℕ, List, Some, Result, Ok, Err, refl, inl, inr}
 use Rattle.chunk_store.specs.declared.id.DigestKind.{DigestKind}
 use Rattle.command_groups.specs.Groups.{stores_of}
 use Rattle.command_outcome.specs.declared.outcome.Outcome.{Outcome}

@@ -133,7 +133,7 @@ surely looks h groups folders = record {
 }
 
 -- the stores were asked for the chunk of an id so often, each e times more at most where it failed, and never whether
--- they have one. Nothing else was sent to a server that is a group by itself but fronts of such requests
+-- they have one. Nothing was sent to a server but fronts of such requests
 abbrev pub GroupsGet : ℕ → List (List Location) → Option (List Traffic) → Option (List Traffic) → Type 0
 GroupsGet e groups old new = (times : List ℕ → ℕ) × GroupsAsked e times (λ id. 0) IsChunkGet groups old new
 

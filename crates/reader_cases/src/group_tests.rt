@@ -3,8 +3,9 @@
 ghost use Rattle.std.specs.Prelude.{◌≡◌};
 
 use crate::compare::{ok, same};
-use crate::images::{ABC, Held, id_of, store_of};
-use chunk_store::store::{GetFault, Store};
+use crate::images::{ABC, ABX, Held, id_of, store_of};
+use chunk_store::shows::Shows;
+use chunk_store::store::{GetFault, Giver, Store};
 use dsy_base::fault::IoFault;
 use std::alloc::Global;
 use std::process::Abort;
@@ -16,6 +17,8 @@ use store_group::group::Group;
 const FULL: &[Held] = &[(ABC, b"abc")];
 
 const EMPTY: &[Held] = &[];
+
+const SPOILED: &[Held] = &[(ABC, b"abX")];
 
 const DOWN: Refuses = Refuses::Everything(IoFault::Failed);
 
@@ -128,4 +131,17 @@ fn groups_are_asked_in_order(rt: HostRuntime) {
         down,
         Err(Refused::StoreFault { store: 1 }),
     );
+}
+
+#[test]
+fn the_store_that_gave_other_bytes_is_named(rt: HostRuntime) {
+    let lacks = [(EMPTY, Refuses::Nothing), (FULL, Refuses::Nothing)];
+    let spoiled = [(EMPTY, DOWN), (SPOILED, Refuses::Nothing)];
+    let store = Giver {
+        number: 1,
+        member: 1,
+    };
+    let shows = Shows::Digest(id_of(&rt, ABX));
+    let refused = Err(Refused::Damaged { store, shows });
+    chain_answers(&rt, rt.alloc(), lacks, spoiled, refused);
 }

@@ -5,10 +5,16 @@ use crate::images::{
     ABC, ABX, ALL, DEF, GHI, Held, Listed, THREE, id_of, open, open_over, store_of,
 };
 use chunk_store::shows::Shows;
+use chunk_store::store::Giver;
 use dsy_base::fault::IoFault;
 use image_reader::refused::ReadRefused;
 use std::process::Abort;
 use store_forms::scripted_store::Refuses;
+
+const FIRST: Giver = Giver {
+    number: 0,
+    member: 0,
+};
 
 const WITHOUT_DEF: &[Held] = &[(ABC, b"abc"), (GHI, b"ghi")];
 
@@ -50,13 +56,13 @@ fn a_damaged_chunk_is_named_with_what_its_store_shows(rt: HostRuntime) {
     let spoiled = ReadRefused::Damaged {
         entry: 0,
         id: abc,
-        store: 0,
+        store: FIRST,
         shows: Shows::Digest(id_of(&rt, ABX)),
     };
     let longer = ReadRefused::Damaged {
         entry: 1,
         id: def,
-        store: 0,
+        store: FIRST,
         shows: Shows::Longer,
     };
     opened.refuses(&rt, alloc, 0, 9, spoiled, 1);
@@ -73,7 +79,7 @@ fn a_kept_chunk_of_another_size_is_not_used(rt: HostRuntime) {
     let why = ReadRefused::Damaged {
         entry: 1,
         id: id_of(&rt, ABC),
-        store: 0,
+        store: FIRST,
         shows: Shows::Longer,
     };
     opened.gives(&rt, alloc, 0, b"abc", 1);

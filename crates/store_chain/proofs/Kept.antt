@@ -61,6 +61,7 @@ module _ {S : Type 0} (store : StoreWords S) (P : Ask → Type 0) where
     held = refl;
     members = refl;
     files = refl;
+    folders = refl;
     places = refl;
     says = all_zip_same (λ a b. (q : List ℕ) → KeepsOf (store.said a) (store.said b) q) (λ s. keeps_itself (store.said s)) xs;
     sends = all_zip_same (λ a b. Sends P (store.sent a) (store.sent b)) (λ s. sends_still P (store.sent s)) xs;
@@ -73,6 +74,7 @@ module _ {S : Type 0} (store : StoreWords S) (P : Ask → Type 0) where
     held = then.held ∙ first.held;
     members = then.members ∙ first.members;
     files = then.files ∙ first.files;
+    folders = then.folders ∙ first.folders;
     places = then.places ∙ first.places;
     says = said_all store.said xs ys zs first.says then.says;
     sends = sent_all P store.sent xs ys zs first.sends then.sends;
@@ -85,6 +87,7 @@ module _ {S : Type 0} (store : StoreWords S) (P : Ask → Type 0) where
     held = h.held;
     members = h.members;
     files = h.files;
+    folders = h.folders;
     places = h.places;
     says = h.says;
     sends = sent_weaker P Q more store.sent xs ys h.sends;
@@ -92,7 +95,7 @@ module _ {S : Type 0} (store : StoreWords S) (P : Ask → Type 0) where
   }
 
   -- from the first of them and the rest
-  module _ (x y : S) (xs ys zs : List S) (is : zs ≡ x ∷ xs) (same : store.holds y ≡ store.holds x) (members : store.members y ≡ store.members x) (lies : store.folder y ≡ store.folder x) (there : store.place y ≡ store.place x)
+  module _ (x y : S) (xs ys zs : List S) (is : zs ≡ x ∷ xs) (same : store.holds y ≡ store.holds x) (members : store.members y ≡ store.members x) (lies : store.folder y ≡ store.folder x) (folders : store.folders y ≡ store.folders x) (there : store.place y ≡ store.place x)
       (says : (q : List ℕ) → KeepsOf (store.said x) (store.said y) q) (sends : Sends P (store.sent x) (store.sent y)) (never_falls : store.faults x ≤ store.faults y) where
     none_falls : NoneFalls (map store.faults xs) (map store.faults ys) → NoneFalls (map store.faults (x ∷ xs)) (map store.faults (y ∷ ys))
     none_falls rest zero = never_falls
@@ -105,6 +108,7 @@ module _ {S : Type 0} (store : StoreWords S) (P : Ask → Type 0) where
           held = λ i. same i ∷ rest.held i;
           members = λ i. members i ∷ rest.members i;
           files = λ i. lies i ∷ rest.files i;
+          folders = λ i. folders i ∷ rest.folders i;
           places = λ i. there i ∷ rest.places i;
           says = (says, rest.says);
           sends = (sends, rest.sends);

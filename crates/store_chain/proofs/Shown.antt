@@ -104,6 +104,6 @@ module _ {S : Type 0} (members : S → Option (List (Map (List ℕ)))) (said : S
     pub lacks_together : (faults : S → ℕ) (lacks_memory : Bool) (old new : List S) (r : Refused) → map members new ≡ map members old → Refuses said faults lacks_memory w old new r → LacksTogether w (map members old) r
     lacks_together faults lacks_memory old new refused.Missing kept h = none_gives old new kept (All-weaker (Denied said faults lacks_memory w) (λ p. Lacks w (said p.1)) (λ p d. inl d) (zip old new) h)
     lacks_together faults lacks_memory old new (refused.Damaged s x) kept h = none_gives old new kept
-        (all_of_first (Denied said faults lacks_memory w) (Showed said faults lacks_memory w x) (Lacked said faults lacks_memory w) (λ p. Lacks w (said p.1)) (λ p d. inl d) (λ p d. inr (x, d)) (λ p d. d) s (zip old new) h)
+        (all_of_first (Denied said faults lacks_memory w) (Showed said faults lacks_memory w s x) (Lacked said faults lacks_memory w) (λ p. Lacks w (said p.1)) (λ p d. inl d) (λ p d. inr (x, d.0)) (λ p d. d) s.number (zip old new) h)
     lacks_together faults lacks_memory old new (refused.StoreFault s) kept h = tt
     lacks_together faults lacks_memory old new refused.Memory kept h = tt

@@ -10,7 +10,7 @@ use Rattle.dsy_base.specs.Maps.{Map}
 use Rattle.store_chain.specs.Faults.{EachQuiet}
 use Rattle.store_chain.specs.Giving.{HoldsNone, Gives, HoldsElse, LacksAll, GivesFirst, Obtains}
 use Rattle.store_chain.specs.Lists.{FirstAt}
-use Rattle.store_chain.specs.Refusals.{HasShown, Lacks, Denied, Showed, Lacked, Failed, LackedOrFailed, PassedOver, GivenBy, Refuses, RefusesFrom}
+use Rattle.store_chain.specs.Refusals.{HasShown, HasShownBy, Lacks, Denied, Showed, Lacked, Failed, LackedOrFailed, PassedOver, GivenBy, Refuses, RefusesFrom}
 use Rattle.store_chain.specs.Queries.{IsWanted, ShowsElse}
 use Rattle.store_chain.specs.declared.refused.Refused.{Refused}
 use Rattle.store_chain.specs.declared.refused.Refused.TheVariants as refused
@@ -38,6 +38,12 @@ module _ (w : Query) (said : Said) (m : Map (List ℕ)) (says : SaysMap said m) 
   held_else shows.Longer h = (says.longer w.id.0 w.lent).0 h
   held_else (shows.Digest x) h = (h.0, (says.shown w.id.0 h.0).0 h.1, h.2)
   held_else (shows.Length n) h = (h.0, (says.shown w.id.0 h.0).0 h.1, h.2)
+
+  -- a store that tells has the number 0
+  first_alone : (k : ℕ) (x : Shows) → HasShownBy k w x said → k ≡ 0
+  first_alone k shows.Longer h = says.longer_by k w.id.0 w.lent h
+  first_alone k (shows.Digest x) h = says.shown_by k w.id.0 h.0 h.1
+  first_alone k (shows.Length n) h = says.shown_by k w.id.0 h.0 h.1
 
   gives_not : (x : Shows) → HoldsElse w x m → Gives w m → ⊥
   gives_not x else gives = not_both w gives.0 else.0 x (some_injective gives.0 else.0 (sym gives.1 ∙ else.1)) gives.2 else.2
@@ -74,6 +80,12 @@ module _ {S : Type 0} (holds : S → Option (Map (List ℕ))) where
   first_told B A C D E F b a c (suc n) (x ∷ xs) (y ∷ ys) (m ∷ ms) kept told h =
       (b (x, y) m (cons_head _ _ _ _ told) h.0, first_told B A C D E F b a c n xs ys ms (cons_tail _ _ _ _ kept) (cons_tail _ _ _ _ told) h.1)
 
+-- what follows from the element of the number
+at_first : {X Q : Type 0} (D E F : X → Type 0) → ((x : X) → E x → Q) → (n : ℕ) (xs : List X) → FirstAt D E F n xs → Q
+at_first D E F f n [] h = absurd h
+at_first D E F f zero (x ∷ xs) h = f x h.0
+at_first D E F f (suc n) (x ∷ xs) h = at_first D E F f n xs h.1
+
 module _ {S : Type 0} (said : S → Said) (faults : S → ℕ) (lacks_memory : Bool) (w : Query) where
   -- without a fault in the call, a store was passed for what it lacks, or for want of memory
   Skipped : S × S → Type 0
@@ -96,8 +108,8 @@ module _ {S : Type 0} (said : S → Said) (faults : S → ℕ) (lacks_memory : B
   pub refuses : (old new : List S) (r : Refused) → RefusesFrom said faults lacks_memory w 0 old new r → Refuses said faults lacks_memory w old new r
   refuses old new refused.Missing h = h
   refuses old new (refused.Damaged s x) h =
-      let P : ℕ → Type 0 = λ k. FirstAt (Denied said faults lacks_memory w) (Showed said faults lacks_memory w x) (Lacked said faults lacks_memory w) k (zip old new) in
-      let e : h.0 ≡ s = omega (arith, h.1) in
+      let P : ℕ → Type 0 = λ k. FirstAt (Denied said faults lacks_memory w) (Showed said faults lacks_memory w s x) (Lacked said faults lacks_memory w) k (zip old new) in
+      let e : h.0 ≡ s.number = omega (arith, h.1) in
       subst P e h.2
   refuses old new (refused.StoreFault s) h =
       let P : ℕ → Type 0 = λ k. FirstAt (Lacked said faults lacks_memory w) (Failed faults) (LackedOrFailed said faults lacks_memory w) k (zip old new) in
@@ -113,10 +125,14 @@ module _ {S : Type 0} (said : S → Said) (faults : S → ℕ) (lacks_memory : B
     pub lacks_all : (r : Refused) → Refuses said faults lacks_memory w old new r → LacksAll w maps r
     lacks_all refused.Missing h =
         all_told holds (Denied said faults lacks_memory w) (HoldsNone w) (λ p m is denied. held_none w (said p.1) m (says_at p.1 m is) denied) old new maps kept told h
-    lacks_all (refused.Damaged s x) h =
-        first_told holds (Denied said faults lacks_memory w) (Showed said faults lacks_memory w x) (Lacked said faults lacks_memory w) (HoldsNone w) (HoldsElse w x) (λ m. Gives w m → ⊥)
-        (λ p m is denied. held_none w (said p.1) m (says_at p.1 m is) denied) (λ p m is showed. held_else w (said p.1) m (says_at p.1 m is) x showed)
-        (λ p m is lacked. lacked_not w (said p.1) m (says_at p.1 m is) lacked) s old new maps kept told h
+    lacks_all (refused.Damaged s x) h = (
+      at_first (λ m. Unit {0}) (λ m. s.member ≡ 0) (λ m. Unit {0}) (λ m is. is) s.number maps
+          (first_told holds (Denied said faults lacks_memory w) (Showed said faults lacks_memory w s x) (Lacked said faults lacks_memory w) (λ m. Unit {0}) (λ m. s.member ≡ 0) (λ m. Unit {0})
+          (λ p m is denied. tt) (λ p m is showed. first_alone w (said p.1) m (says_at p.1 m is) s.member x showed.1) (λ p m is lacked. tt) s.number old new maps kept told h),
+      first_told holds (Denied said faults lacks_memory w) (Showed said faults lacks_memory w s x) (Lacked said faults lacks_memory w) (HoldsNone w) (HoldsElse w x) (λ m. Gives w m → ⊥)
+          (λ p m is denied. held_none w (said p.1) m (says_at p.1 m is) denied) (λ p m is showed. held_else w (said p.1) m (says_at p.1 m is) x showed.0)
+          (λ p m is lacked. lacked_not w (said p.1) m (says_at p.1 m is) lacked) s.number old new maps kept told h,
+    )
     lacks_all (refused.StoreFault s) h = tt
     lacks_all refused.Memory h = tt
 

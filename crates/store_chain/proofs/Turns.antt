@@ -18,7 +18,7 @@ module _ {S : Type 0} (said : S → Said) (faults : S → ℕ) (lacks_memory : B
 
   passed : (number : ℕ) (x y : S) (why : Refused) → Tells said faults lacks_memory w number x y why → PassedOver said faults lacks_memory w (x, y)
   passed number x y refused.Missing tells = inl (inl tells)
-  passed number x y (refused.Damaged s shows) tells = inl (inr (shows, tells.1))
+  passed number x y (refused.Damaged s shows) tells = inl (inr (shows, tells.1.0))
   passed number x y (refused.StoreFault s) tells = inr (inl tells.1)
   passed number x y refused.Memory tells = inr (inr tells)
 
@@ -37,8 +37,8 @@ module _ {S : Type 0} (said : S → Said) (faults : S → ℕ) (lacks_memory : B
   all_passed : (number : ℕ) (xs ys : List S) (then : Refused) → RefusesFrom said faults lacks_memory w (number + 1) xs ys then → All (PassedOver said faults lacks_memory w) (zip xs ys)
   all_passed number xs ys refused.Missing rest = All-weaker (Denied said faults lacks_memory w) (PassedOver said faults lacks_memory w) (λ p h. inl (inl h)) (zip xs ys) rest
   all_passed number xs ys (refused.Damaged t more) rest =
-      all_of_first (Denied said faults lacks_memory w) (Showed said faults lacks_memory w more) (Lacked said faults lacks_memory w) (PassedOver said faults lacks_memory w)
-      (λ p h. inl (inl h)) (λ p h. inl (inr (more, h))) (λ p h. inl h) rest.0 (zip xs ys) rest.2
+      all_of_first (Denied said faults lacks_memory w) (Showed said faults lacks_memory w t more) (Lacked said faults lacks_memory w) (PassedOver said faults lacks_memory w)
+      (λ p h. inl (inl h)) (λ p h. inl (inr (more, h.0))) (λ p h. inl h) rest.0 (zip xs ys) rest.2
   all_passed number xs ys (refused.StoreFault t) rest =
       all_of_first (Lacked said faults lacks_memory w) (Failed faults) (LackedOrFailed said faults lacks_memory w) (PassedOver said faults lacks_memory w)
       (λ p h. inl h) (λ p h. inr (inl h)) passed_too rest.0 (zip xs ys) rest.2
@@ -60,12 +60,12 @@ module _ {S : Type 0} (said : S → Said) (faults : S → ℕ) (lacks_memory : B
     omega (arith, tells.0),
     (
       tells.1,
-      all_of_first (Denied said faults lacks_memory w) (Showed said faults lacks_memory w more) (Lacked said faults lacks_memory w) (Lacked said faults lacks_memory w)
-          (λ p h. inl h) (λ p h. inr (more, h)) (λ p h. h) rest.0 (zip xs ys) rest.2,
+      all_of_first (Denied said faults lacks_memory w) (Showed said faults lacks_memory w t more) (Lacked said faults lacks_memory w) (Lacked said faults lacks_memory w)
+          (λ p h. inl h) (λ p h. inr (more, h.0)) (λ p h. h) rest.0 (zip xs ys) rest.2,
     ),
   )
-  refused_all number x y xs ys (refused.Damaged s shows) (refused.StoreFault t) tells rest = (suc rest.0, omega (arith, rest.1), (inr (shows, tells.1), rest.2))
-  refused_all number x y xs ys (refused.Damaged s shows) refused.Memory tells rest = (rest.0, (suc rest.1.0, (inl (inr (shows, tells.1)), rest.1.1)))
+  refused_all number x y xs ys (refused.Damaged s shows) (refused.StoreFault t) tells rest = (suc rest.0, omega (arith, rest.1), (inr (shows, tells.1.0), rest.2))
+  refused_all number x y xs ys (refused.Damaged s shows) refused.Memory tells rest = (rest.0, (suc rest.1.0, (inl (inr (shows, tells.1.0)), rest.1.1)))
   refused_all number x y xs ys (refused.StoreFault s) refused.Missing tells rest =
       (0, omega (arith, tells.0), (tells.1, All-weaker (Denied said faults lacks_memory w) (LackedOrFailed said faults lacks_memory w) (λ p h. inl (inl h)) (zip xs ys) rest))
   refused_all number x y xs ys (refused.StoreFault s) (refused.Damaged t more) tells rest = (
@@ -73,8 +73,8 @@ module _ {S : Type 0} (said : S → Said) (faults : S → ℕ) (lacks_memory : B
     omega (arith, tells.0),
     (
       tells.1,
-      all_of_first (Denied said faults lacks_memory w) (Showed said faults lacks_memory w more) (Lacked said faults lacks_memory w) (LackedOrFailed said faults lacks_memory w)
-          (λ p h. inl (inl h)) (λ p h. inl (inr (more, h))) (λ p h. inl h) rest.0 (zip xs ys) rest.2,
+      all_of_first (Denied said faults lacks_memory w) (Showed said faults lacks_memory w t more) (Lacked said faults lacks_memory w) (LackedOrFailed said faults lacks_memory w)
+          (λ p h. inl (inl h)) (λ p h. inl (inr (more, h.0))) (λ p h. inl h) rest.0 (zip xs ys) rest.2,
     ),
   )
   refused_all number x y xs ys (refused.StoreFault s) (refused.StoreFault t) tells rest = (

@@ -15,13 +15,14 @@ pub record Chained (S : Type 0) : Type 0 where
   pub asks : ℕ
   pub kind : DigestKind
 
--- stores that are only asked: each holds what it held, as do its members, and lies where it lay, it says still what it
--- has said, its count of faults hasn't fallen, and it has sent nothing since but fronts of requests for asks of which P
--- holds
+-- stores that are only asked: each holds what it held, as do its members, and its folder what it held, as do those of a
+-- group's stores. It lies where it lay, it says still what it has said, its count of faults hasn't fallen, and it has
+-- sent nothing since but fronts of requests for asks of which P holds
 pub record KeepsStores {S : Type 0} (store : StoreWords S) (P : Ask → Type 0) (old new : List S) : Type 0 where
   pub held : map store.holds new ≡ map store.holds old
   pub members : map store.members new ≡ map store.members old
   pub files : map store.folder new ≡ map store.folder old
+  pub folders : map store.folders new ≡ map store.folders old
   pub places : map store.place new ≡ map store.place old
   pub says : AllZip (λ a b. (q : List ℕ) → KeepsOf (store.said a) (store.said b) q) old new
   pub sends : AllZip (λ a b. Sends P (store.sent a) (store.sent b)) old new

@@ -26,10 +26,11 @@ SomeHolds members stores id b = (maps : List (Map (List ℕ))) → maps_of membe
     → Any (λ m. m id ≡ Some b) maps
 
 -- the maps lack the chunk: all hold nothing under the id, or this is the first that holds something, and none gives.
--- Faults and want of memory are free
+-- A map is no group. Faults and want of memory are free
 abbrev pub LacksAll : Query → List (Map (List ℕ)) → Refused → Type 0
 LacksAll w maps refused.Missing = All (HoldsNone w) maps
-LacksAll w maps (refused.Damaged s x) = FirstAt (HoldsNone w) (HoldsElse w x) (λ m. Gives w m → ⊥) s maps
+LacksAll w maps (refused.Damaged s x) = (s.member ≡ 0)
+    × FirstAt (HoldsNone w) (HoldsElse w x) (λ m. Gives w m → ⊥) s.number maps
 LacksAll w maps (refused.StoreFault s) = Unit {0}
 LacksAll w maps refused.Memory = Unit {0}
 

@@ -5,6 +5,7 @@ use Rattle.std.specs.List.{zip}
 use Rattle.chunk_store.specs.Said.{Said}
 use Rattle.chunk_store.specs.declared.shows.Shows.{Shows}
 use Rattle.chunk_store.specs.declared.shows.Shows.TheVariants as shows
+use Rattle.chunk_store.specs.declared.store.Giver.{Giver}
 use Rattle.dsy_base.specs.Counts.{Rose}
 use Rattle.store_chain.specs.Lists.{FirstAt}
 use Rattle.store_chain.specs.Queries.{ShowsElse}
@@ -38,6 +39,12 @@ HasShown w shows.Longer s = s.longer w.id.0 w.lent
 HasShown w (shows.Digest x) s = (b : List ℕ) × s.shown w.id.0 b × ShowsElse w b (shows.Digest x)
 HasShown w (shows.Length n) s = (b : List ℕ) × s.shown w.id.0 b × ShowsElse w b (shows.Length n)
 
+-- the store of this number in a group has shown it
+abbrev pub HasShownBy : ℕ → Query → Shows → Said → Type 0
+HasShownBy k w shows.Longer s = s.longer_by k w.id.0 w.lent
+HasShownBy k w (shows.Digest x) s = (b : List ℕ) × s.shown_by k w.id.0 b × ShowsElse w b (shows.Digest x)
+HasShownBy k w (shows.Length n) s = (b : List ℕ) × s.shown_by k w.id.0 b × ShowsElse w b (shows.Length n)
+
 -- a store has denied the id, or has shown something else under it
 abbrev pub Lacks : Query → Said → Type 0
 Lacks w s = s.denied w.id.0 ⊎ ((x : Shows) × HasShown w x s)
@@ -55,9 +62,9 @@ module _ {S : Type 0} (said : S → Said) (faults : S → ℕ) (lacks_memory : B
   abbrev pub Denied : S × S → Type 0
   Denied p = (said p.1).denied w.id.0
 
-  -- the store has shown what x says
-  abbrev pub Showed : Shows → S × S → Type 0
-  Showed x p = HasShown w x (said p.1)
+  -- the store has shown what x says, and the one that answered for it has
+  abbrev pub Showed : Giver → Shows → S × S → Type 0
+  Showed s x p = HasShown w x (said p.1) × HasShownBy s.member w x (said p.1)
 
   -- the store lacks the chunk
   abbrev pub Lacked : S × S → Type 0
@@ -70,7 +77,7 @@ module _ {S : Type 0} (said : S → Said) (faults : S → ℕ) (lacks_memory : B
   -- one store, which has this number, refused so
   abbrev pub Tells : ℕ → S → S → Refused → Type 0
   Tells number old new refused.Missing = Denied (old, new)
-  Tells number old new (refused.Damaged s x) = (s ≡ number) × Showed x (old, new)
+  Tells number old new (refused.Damaged s x) = (s.number ≡ number) × Showed s x (old, new)
   Tells number old new (refused.StoreFault s) = (s ≡ number) × Failed faults (old, new)
   Tells number old new refused.Memory = NoMemory (old, new)
 
@@ -91,7 +98,7 @@ module _ {S : Type 0} (said : S → Said) (faults : S → ℕ) (lacks_memory : B
   -- each other lacks the chunk, failed, or had none either
   abbrev pub Refuses : List S → List S → Refused → Type 0
   Refuses old new refused.Missing = All Denied (zip old new)
-  Refuses old new (refused.Damaged s x) = FirstAt Denied (Showed x) Lacked s (zip old new)
+  Refuses old new (refused.Damaged s x) = FirstAt Denied (Showed s x) Lacked s.number (zip old new)
   Refuses old new (refused.StoreFault s) = FirstAt Lacked (Failed faults) LackedOrFailed s (zip old new)
   Refuses old new refused.Memory = (k : ℕ) × FirstAt LackedOrFailed NoMemory PassedOver k (zip old new)
 
@@ -99,7 +106,7 @@ module _ {S : Type 0} (said : S → Said) (faults : S → ℕ) (lacks_memory : B
   abbrev pub RefusesFrom : ℕ → List S → List S → Refused → Type 0
   RefusesFrom from old new refused.Missing = All Denied (zip old new)
   RefusesFrom from old new (refused.Damaged s x) =
-      (k : ℕ) × (s ≡ from + k) × FirstAt Denied (Showed x) Lacked k (zip old new)
+      (k : ℕ) × (s.number ≡ from + k) × FirstAt Denied (Showed s x) Lacked k (zip old new)
   RefusesFrom from old new (refused.StoreFault s) =
       (k : ℕ) × (s ≡ from + k) × FirstAt Lacked (Failed faults) LackedOrFailed k (zip old new)
   RefusesFrom from old new refused.Memory = IsTrue lacks_memory × Refuses old new refused.Memory

@@ -10,7 +10,17 @@ ghost use Rattle.store_chain.specs.Refusals.{Tells, GivenBy, RefusesFrom};
 use crate::query::Query;
 use crate::refused::Refused;
 use chunk_store::shows::Shows;
-use chunk_store::store::{GetFault, Store};
+use chunk_store::store::{GetFault, Giver, Store};
+
+// The store that answered most recently, where the one asked has this number.
+fn giver_of<S: Store>(store: &S, number: u32) -> Giver
+    ensures { result ≡ record { number = number; member = S.giver store.now } }
+{
+    Giver {
+        number,
+        member: store.giver(),
+    }
+}
 
 // Asks one store, which has this number.
 fn ask<S: Store>(
@@ -26,6 +36,7 @@ fn ask<S: Store>(
     ensures kept { S.holds store.new ≡ S.holds store.old }
     ensures members { S.members store.new ≡ S.members store.old }
     ensures files { S.folder store.new ≡ S.folder store.old }
+    ensures folders { S.folders store.new ≡ S.folders store.old }
     ensures place { S.place store.new ≡ S.place store.old }
     ensures said { (q : List ℕ) → KeepsOf (S.said store.old) (S.said store.new) q }
     ensures sends { Sends (λ a. a ≡ Get query.now.id.0) (S.sent store.old) (S.sent store.new) }
@@ -39,14 +50,14 @@ fn ask<S: Store>(
             match query.shown(bytes) {
                 None => Ok(n),
                 Some(shows) => Err(Refused::Damaged {
-                    store: number,
+                    store: giver_of(store, number),
                     shows,
                 }),
             }
         }
         Err(GetFault::Missing) => Err(Refused::Missing),
         Err(GetFault::Longer) => Err(Refused::Damaged {
-            store: number,
+            store: giver_of(store, number),
             shows: Shows::Longer,
         }),
         Err(GetFault::Failed) => Err(Refused::StoreFault { store: number }),

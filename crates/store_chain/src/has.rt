@@ -22,6 +22,7 @@ fn has_one<S: Store>(store: &mut S, number: u32, id: &ChunkId) -> Result<bool, H
     ensures kept { S.holds store.new ≡ S.holds store.old }
     ensures members { S.members store.new ≡ S.members store.old }
     ensures files { S.folder store.new ≡ S.folder store.old }
+    ensures folders { S.folders store.new ≡ S.folders store.old }
     ensures place { S.place store.new ≡ S.place store.old }
     ensures said { (q : List ℕ) → KeepsOf (S.said store.old) (S.said store.new) q }
     ensures sends { Sends (λ a. a ≡ Has id.now.0) (S.sent store.old) (S.sent store.new) }

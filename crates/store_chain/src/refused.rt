@@ -4,6 +4,7 @@ ghost use Rattle.std.specs.Prelude.{◌≡◌};
 ghost use Rattle.store_chain.specs.Refusals.{rank, graver, has_after};
 
 use chunk_store::shows::Shows;
+use chunk_store::store::Giver;
 
 /// Why a chain gives no chunk.
 #[derive(Clone, Copy, Debug, PartialEq, Eq)]
@@ -11,7 +12,7 @@ pub enum Refused {
     /// No store holds anything under the id.
     Missing,
     /// The first store that holds something under the id, and what that shows.
-    Damaged { store: u32, shows: Shows },
+    Damaged { store: Giver, shows: Shows },
     /// The first store that failed.
     StoreFault { store: u32 },
     /// A store had no memory.

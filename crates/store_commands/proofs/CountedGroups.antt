@@ -5,7 +5,7 @@ use Rattle.caibx_codec.specs.Asks.{IsListedHas}
 use Rattle.caibx_codec.specs.Listing.{Listing, count_of}
 use Rattle.command_groups.proofs.Asked.{groups_asked}
 use Rattle.command_groups.proofs.Given.{group_given_earlier}
-use Rattle.command_groups.proofs.Stand.{folders_still, found_after, fresh_first, fresh_tries, groups_stand_still, groups_try_still}
+use Rattle.command_groups.proofs.Stand.{found_after, fresh_first, fresh_tries, groups_stand_still, groups_try_still}
 use Rattle.command_groups.proofs.Standing.{Standing, all_groups_stand}
 use Rattle.command_groups.proofs.Words.{group_words}
 use Rattle.command_groups.specs.Asking.{GroupsAsked}
@@ -52,7 +52,7 @@ module _ {L D K : Type 0} (look : LookWords L) (state : D → DialState) (e : �
   pub asked_after : (old new : Option (List Traffic)) → All (AreUnused state) before → map (group_words look state).asked after ≡ map (group_words look state).asked before → EachAsksBefore (group_words look state).queried l (count_of l) before after
       → new ≡ fold (with_group state) old after → GroupsAsked e (λ id. 0) (asks_once l) (IsListedHas l) names old new
   asked_after old new unused asked queried ended =
-      groups_asked look.place state look.files e (λ id. 0) (asks_once l) (IsListedHas l) before after names old new unused tries stands
+      groups_asked look.place state e (λ id. 0) (asks_once l) (IsListedHas l) before after names old new unused tries stands
       (none_more (group_words look state).asked before after asked) (each_once (group_words look state).queried l before after queried) kept.sends located_after ended
 
   -- the disk was read while they were opened, from d to m; then they were given back
@@ -64,5 +64,5 @@ module _ {L D K : Type 0} (look : LookWords L) (state : D → DialState) (e : �
         → All (Standing look.never_fails look.files look.place look.faults state e (storage d k) (storage f j)) after
     standing_after found given =
         all_groups_stand look.never_fails look.files look.place look.faults state e (storage d k) (storage f j) after names located_after
-        (found_after look.files d.folders before after names (folders_still look.place look.never_fails look.files state (IsListedHas l) before after stands kept.files kept.sends) found) tries
+        (found_after look.files d.folders before after names kept.folders found) tries
         (λ n g lt. group_given_earlier look.place look.faults state (storage d k) (storage m k) (storage f j) opened.folder_counts (dials_none k) closed.0.dial (slice_index_or after n g) (given n g lt))

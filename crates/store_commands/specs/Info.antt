@@ -52,7 +52,7 @@ CountedInStores sure e w v groups l (Ok (Some n)) = (0 < length groups) × IsCou
 CountedInStores sure e w v groups l (Err o) = NotCounted e w v groups l o
 
 -- servers are asked only whether they have a chunk, at most once for each listed id, and e times more where they
--- failed. Those that are a group by themselves are sent fronts of such requests
+-- failed, and they are sent nothing but fronts of such requests
 abbrev pub IdsCounted : Bool → List (List Location) → ℕ → Listing → Step Storage (Option ℕ)
 IdsCounted sure groups e l w r v = CountedInStores sure e w v groups l r × ConsultsStores (stores_of groups) w v
     × GroupsAsked e (λ id. 0) (asks_once l) (IsListedHas l) groups w.dial.ended v.dial.ended

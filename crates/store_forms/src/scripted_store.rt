@@ -144,6 +144,10 @@ impl Store for ScriptedStore {
         }
     }
 
+    fn giver(&self) -> usize {
+        0
+    }
+
     fn has(&mut self, id: &ChunkId) -> Result<bool, IoFault> {
         self.admit(id)?;
         self.chunks.has(id)

@@ -1,13 +1,13 @@
 -- Groups of stores that never fail: the active store answers alone, and stays active.
-use Rattle.std.proofs.Common.{◌≡◌, inl, inr, ℕ, zero, suc, ◌+◌, ◌≤◌, ◌<◌, List, [], ◌∷◌, length, Bool, true, false, ◌&&◌, Option, Some, None, IfSome, IsSome, IsTrue, is_some, take, drop, slice_get, refl, sym, ap, subst, arith, ◌⊎◌, ◌-◌, ◌^◌}
-use Rattle.std.proofs.lemmas.Bool.{cases_lt}
+use Rattle.std.proofs.Common.{◌≡◌, inl, inr, ℕ, zero, suc, ◌+◌, ◌≤◌, ◌<◌, List, [], ◌∷◌, length, Bool, true, false, ◌&&◌, Option, Some, None, IfSome, IsSome, IsTrue, is_some, take, drop, slice_get, refl, sym, ap, ◌∙◌, subst, arith, ◌⊎◌, ◌-◌, ◌^◌}
+use Rattle.std.proofs.lemmas.Bool.{cases_lt, false≢true}
 use Rattle.std.specs.List.{AllByRecursion, AllZip}
-use Rattle.chunk_store.proofs.Said.{keeps_itself}
-use Rattle.chunk_store.specs.Said.{KeepsOf, Said, said_by}
+use Rattle.chunk_store.proofs.Said.{keeps_alone, keeps_itself}
+use Rattle.chunk_store.specs.Said.{KeepsOf, Said, alone, said_by}
 use Rattle.chunk_store.specs.declared.store.Store.{Ghosts as StoreWords}
 use Rattle.dsy_base.specs.Counts.{Rose, raised}
 use Rattle.dsy_base.specs.Maps.{Map}
-use Rattle.store_group.proofs.Groups.{answers_unfailed, as_steady, group_asked, group_place_kept, group_says, maps_kept, sent_kept}
+use Rattle.store_group.proofs.Groups.{answers_unfailed, as_steady, each_kept, group_asked, group_place_kept, group_says, maps_kept, sent_kept}
 use Rattle.store_group.specs.Answers.{AnswersAt, AnswersFirst, AnswersRound, AskedUpTo, FailsAll, AnswerSays, times_for}
 use Rattle.store_group.specs.Groups.{CountsByAnswer, Grouped, active_store, all_tell, as_store_by, both_true, group_faults, told_or_all, no_chunks, of_one, of_store, said_of, said_of_store, said_steady, steady_of, steady_store}
 use Rattle.store_group.specs.declared.answer.Answer.{Answer}
@@ -89,22 +89,36 @@ module _ {S : Type 0} (store : StoreWords S) (q : Question) (id out : List ℕ) 
       let rest = answered_by k old xs h in
       record { before = rest.before; after = rest.after; was = rest.was; is = rest.is; says = rest.says }
 
+-- what one has said of an id, and by a number, another has said too, by a number of its own
+pub record SaysToo (id : List ℕ) (a : Said) (j : ℕ) (b : Said) (k : ℕ) : Type 0 where
+  pub denied : a.denied id → b.denied id
+  pub shown : (x : List ℕ) → a.shown id x → b.shown id x
+  pub longer : (n : ℕ) → a.longer id n → b.longer id n
+  pub shown_by : (x : List ℕ) → a.shown id x → a.shown_by j id x → b.shown_by k id x
+  pub longer_by : (n : ℕ) → a.longer id n → a.longer_by j id n → b.longer_by k id n
+
+too_itself : (id : List ℕ) (a : Said) (j : ℕ) → SaysToo id a j a j
+too_itself id a j = record { denied = λ h. h; shown = λ x h. h; longer = λ n h. h; shown_by = λ x h by. by; longer_by = λ n h by. by }
+
+too_alone : (id : List ℕ) (a : Said) (j k : ℕ) → k ≡ 0 → SaysToo id a j (alone a) k
+too_alone id a j k first = record { denied = λ h. h; shown = λ x h. h; longer = λ n h. h; shown_by = λ x h by. (first, h); longer_by = λ n h by. (first, h) }
+
+alone_kept : (a b : Said) (x : List ℕ) → KeepsOf a b x → KeepsOf (alone a) (alone b) x
+alone_kept a b x keeps = keeps_alone a b x keeps.denied keeps.shown keeps.longer keeps.taken
+
 -- what one store says, another one does that holds the same and has said the same
-module _ {S G : Type 0} (store : StoreWords S) (group : StoreWords G) (id out : List ℕ) (s t : S) (g h : G) (holds : store.holds s ≡ group.holds g) (said : store.said t ≡ group.said h) (memory : IsTrue store.may_lack_memory → IsTrue group.may_lack_memory) where
+module _ {S G : Type 0} (store : StoreWords S) (group : StoreWords G) (id out : List ℕ) (s t : S) (g h : G) (holds : store.holds s ≡ group.holds g) (said : SaysToo id (store.said t) (store.giver t) (group.said h) (group.giver h)) (memory : IsTrue store.may_lack_memory → IsTrue group.may_lack_memory) where
   held : (P : Map (List ℕ) → Type 0) → IfSome (store.holds s) P → IfSome (group.holds g) P
   held P x = subst (λ (o : Option (Map (List ℕ))). IfSome o P) holds x
 
-  told : (P : Said → Type 0) → P (store.said t) → P (group.said h)
-  told P x = subst P said x
-
   pub says_too : (q : Question) (a : Answer) → AnswerSays store q id s t out a → AnswerSays group q id g h out a
-  says_too question.Get (answer.Given n) x = (x.0, told (λ d. d.shown id (take n out)) x.1, held (λ m. m id ≡ Some (take n out)) x.2)
-  says_too question.Get answer.Missing x = (told (λ d. d.denied id) x.0, held (λ m. m id ≡ None) x.1)
-  says_too question.Get answer.Longer x = (told (λ d. d.longer id (length out)) x.0, held (λ m. (b : List ℕ) × (m id ≡ Some b) × (length out < length b)) x.1)
+  says_too question.Get (answer.Given n) x = (x.0, said.shown (take n out) x.1, held (λ m. m id ≡ Some (take n out)) x.2, said.shown_by (take n out) x.1 x.3)
+  says_too question.Get answer.Missing x = (said.denied x.0, held (λ m. m id ≡ None) x.1)
+  says_too question.Get answer.Longer x = (said.longer (length out) x.0, held (λ m. (b : List ℕ) × (m id ≡ Some b) × (length out < length b)) x.1, said.longer_by (length out) x.0 x.2)
   says_too question.Get (answer.There has) x = x
   says_too question.Get answer.Failed x = tt
   says_too question.Get answer.Memory x = memory x
-  says_too question.Has (answer.There has) x = (λ no. told (λ d. d.denied id) (x.0 no), held (λ m. has ≡ is_some (m id)) x.1)
+  says_too question.Has (answer.There has) x = (λ no. said.denied (x.0 no), held (λ m. has ≡ is_some (m id)) x.1)
   says_too question.Has (answer.Given n) x = x
   says_too question.Has answer.Missing x = x
   says_too question.Has answer.Longer x = x
@@ -146,7 +160,7 @@ module _ {S : Type 0} (R : S → S → Type 0) where
   both_said said x old xs first keeps None None h = first
   both_said said x old xs first keeps None (Some t) h = absurd h
   both_said said x old xs first keeps (Some s) None h = absurd h
-  both_said said x old xs first keeps (Some s) (Some t) h = keeps s t h
+  both_said said x old xs first keeps (Some s) (Some t) h = alone_kept (said s) (said t) x (keeps s t h)
 
   -- they all tell as they did
   pub tell_still : {X : Type 0} (tells : S → Option X) → ((s t : S) → R s t → tells t ≡ tells s) → (old xs : List S) → AllZip R old xs → all_tell tells xs ≡ all_tell tells old
@@ -166,7 +180,7 @@ module _ {S : Type 0} (R : S → S → Type 0) where
     told_kept None None h x = keeps_itself (said_by (Some no_chunks)) x
     told_kept None (Some t) h x = absurd h
     told_kept (Some s) None h x = absurd h
-    told_kept (Some s) (Some t) h x = keeps s t h x
+    told_kept (Some s) (Some t) h x = alone_kept (said s) (said t) x (keeps s t h x)
 
   module _ (count : S → List ℕ → ℕ) (x : List ℕ) where
     once_more : ((s t : S) → R s t → count t x ≤ count s x + 1) → (o p : Option S) → Both R o p → of_store (λ id. 0) count p x ≤ of_store (λ id. 0) count o x + 1
@@ -205,6 +219,7 @@ module _ {S : Type 0} (store : StoreWords S) (sure : (s : S) → store.faults s 
         holds = seen_kept (Turn question.Get) (Some no_chunks) store.holds (λ s t u. u.holds) o p both;
         members = λ i. told_or_all (seen_kept (Turn question.Get) (Some no_chunks) store.holds (λ s t u. u.holds) o p both i) (maps_kept (Turn question.Get) store.members (λ s t u. u.members) g.stores h.stores turns i);
         folder = seen_kept (Turn question.Get) None store.folder (λ s t u. u.folder) o p both;
+        folders = each_kept (Turn question.Get) store.folder (λ s t u. u.folder) g.stores h.stores turns;
         place = group_place_kept store id g h same question.Get turns;
         said = told_kept (Turn question.Get) store.said (λ s t u. u.said) o p both;
         sends = sent_kept store question.Get (g.retries + 1) id g.stores h.stores turns;
@@ -224,6 +239,7 @@ module _ {S : Type 0} (store : StoreWords S) (sure : (s : S) → store.faults s 
         holds = seen_kept (Turn question.Has) (Some no_chunks) store.holds (λ s t u. u.holds) o p both;
         members = λ i. told_or_all (seen_kept (Turn question.Has) (Some no_chunks) store.holds (λ s t u. u.holds) o p both i) (maps_kept (Turn question.Has) store.members (λ s t u. u.members) g.stores h.stores turns i);
         folder = seen_kept (Turn question.Has) None store.folder (λ s t u. u.folder) o p both;
+        folders = each_kept (Turn question.Has) store.folder (λ s t u. u.folder) g.stores h.stores turns;
         place = group_place_kept store id g h same question.Has turns;
         said = told_kept (Turn question.Has) store.said (λ s t u. u.said) o p both;
         sends = sent_kept store question.Has (g.retries + 1) id g.stores h.stores turns;
@@ -246,17 +262,17 @@ module _ {S : Type 0} (store : StoreWords S) (q : Question) (id out : List ℕ) 
 
   -- what the store says that answered, the group says, where the active store is the same if none fails
   says_of : (unfailing : Bool) (n k : ℕ) (old xs : List S) → (IsTrue unfailing → k ≡ n) → AnswersAt store q id k old xs out a → AnswerSays (as_steady unfailing store) q id (was_so n old) (is_so k xs) out a
-  says_of false n k old xs stays at = group_says store id out (was_so n old) (is_so k xs) q a k at
+  says_of false n k old xs stays at = group_says store id out (was_so n old) (is_so k xs) q a at
   says_of true (suc n) zero old xs stays at = absurd (omega (arith, stays refl))
   says_of true zero (suc k) old xs stays at = absurd (omega (arith, stays refl))
   says_of true (suc n) (suc k) old xs stays at =
       let was = was_so (suc n) old in
       let is = is_so (suc k) xs in
-      says_too (as_steady false store) (as_steady true store) id out was is was is refl refl (λ t. t) q a (group_says store id out was is q a (suc k) at)
+      says_too (as_steady false store) (as_steady true store) id out was is was is refl (too_itself id ((as_steady false store).said is) (suc k)) (λ t. t) q a (group_says store id out was is q a at)
   says_of true zero zero [] xs stays at = absurd at
   says_of true zero zero (s ∷ old) [] stays at = absurd at
   says_of true zero zero (s ∷ old) (x ∷ xs) stays at =
-      says_too store (as_steady true store) id out s x (was_so zero (s ∷ old)) (is_so zero (x ∷ xs)) refl refl (λ t. t) q a at.0
+      says_too store (as_steady true store) id out s x (was_so zero (s ∷ old)) (is_so zero (x ∷ xs)) refl (too_alone id (store.said x) (store.giver x) 0 refl) (λ t. t) q a at.0
 
 module _ {S : Type 0} (store : StoreWords S) (steady : (s : S) → IsTrue store.told_never_fail → IsSome (store.holds s) → store.faults s ≡ 0) (id : List ℕ) (g h : Grouped S) where
   abbrev Turning : Question → S → S → Type 0
@@ -302,8 +318,8 @@ module _ {S : Type 0} (store : StoreWords S) (steady : (s : S) → IsTrue store.
       }
 
   asked_so : (q : Question) → Keeps → AskedUpTo (as_steady false store) q 1 id g h → AskedUpTo (as_store_by false store) q 1 id g h
-  asked_so question.Get k a = record { holds = k.holds; members = k.members; folder = k.folder; place = a.place; said = k.said; sends = a.sends; this = a.this; no_less = a.no_less; others = a.others; stays = a.stays; faults = a.faults; paid = a.paid }
-  asked_so question.Has k a = record { holds = k.holds; members = k.members; folder = k.folder; place = a.place; said = k.said; sends = a.sends; this = a.this; no_less = a.no_less; others = a.others; stays = a.stays; faults = a.faults; paid = a.paid }
+  asked_so question.Get k a = record { holds = k.holds; members = k.members; folder = k.folder; folders = a.folders; place = a.place; said = k.said; sends = a.sends; this = a.this; no_less = a.no_less; others = a.others; stays = a.stays; faults = a.faults; paid = a.paid }
+  asked_so question.Has k a = record { holds = k.holds; members = k.members; folder = k.folder; folders = a.folders; place = a.place; said = k.said; sends = a.sends; this = a.this; no_less = a.no_less; others = a.others; stays = a.stays; faults = a.faults; paid = a.paid }
 
   -- the group was asked, where the active store is the same if none fails
   steady_asked : (same : h.retries ≡ g.retries) (counts : g.failed ≤ h.failed) (q : Question) → AllZip (Turning q) g.stores h.stores → (IsTrue (IsSteady g) → h.active ≡ g.active) → AskedUpTo (as_store_by false store) q 1 id g h
@@ -318,7 +334,8 @@ module _ {S : Type 0} (store : StoreWords S) (steady : (s : S) → IsTrue store.
     steady_says : AnswersAt store q id h.active g.stores h.stores out a → AnswerSays (as_store_by false store) q id g h out a
     steady_says at =
         let said = ap (λ (b : Bool). said_steady store.said h.stores (steady_of b h.active h.stores)) (sym (steady_still q turns)) in
-        says_too (as_steady (IsSteady g) store) (as_store_by false store) id out g h g h refl said (λ t. t) q a
+        let was : Said = (as_steady (IsSteady g) store).said h in
+        says_too (as_steady (IsSteady g) store) (as_store_by false store) id out g h g h refl (subst (λ d. SaysToo id was h.active d h.active) said (too_itself id was h.active)) (λ t. t) q a
         (says_of store q id out a g.retries g.failed h.retries h.failed (IsSteady g) g.active h.active g.stores h.stores steady_stays at)
 
 -- ---- by whether its stores never fail, or those that tell never do
@@ -330,15 +347,21 @@ module _ {S : Type 0} (store : StoreWords S) (q : Question) (id out : List ℕ) 
   abbrev At : Answer → Type 0
   At a = AnswersAt store q id h.active g.stores h.stores out a
 
-  pub says_as : ((s : S) → IsTrue store.told_never_fail → IsSome (store.holds s) → store.faults s ≡ 0) → (b : Bool) → ((s : S) → IsTrue b → store.faults s ≡ 0) → AllZip (AskedUpTo store q (g.retries + 1) id) g.stores h.stores → (a : Answer) → At a → Round a
+  pub says_as : ((s : S) → IsTrue store.told_never_fail → IsSome (store.holds s) → store.faults s ≡ 0) → (b : Bool) → (IsTrue b → g.active ≡ 0) → ((s : S) → IsTrue b → store.faults s ≡ 0) → AllZip (AskedUpTo store q (g.retries + 1) id) g.stores h.stores → (a : Answer) → At a → Round a
       → AnswerSays (as_store_by b store) q id g h out a
-  says_as steady false sure turns a at round = steady_says store steady id g h q out a inside turns round at
-  says_as steady true sure turns a at round =
+  says_as steady false first sure turns a at round = steady_says store steady id g h q out a inside turns round at
+  says_as steady true first sure turns a at round =
       let stays : h.active ≡ g.active = active_answers store q g.retries id out a g.active h.active g.stores h.stores (all_quiet store (λ s. sure s refl) h.stores) inside round in
       let by = answered_by store q id out a h.active g.stores h.stores at in
       let was : slice_get g.stores g.active ≡ Some by.before = subst (λ (n : ℕ). slice_get g.stores n ≡ Some by.before) stays by.was in
       says_too store (as_store_by true store) id out by.before by.after g h
-      (ap (of_store (Some no_chunks) store.holds) (sym was)) (ap (said_of_store store.said) (sym by.is)) (λ t. t) q a by.says
+      (ap (of_store (Some no_chunks) store.holds) (sym was)) (subst (λ d. SaysToo id (store.said by.after) (store.giver by.after) d h.active) (ap (said_of_store store.said) (sym by.is)) (too_alone id (store.said by.after) (store.giver by.after) h.active (stays ∙ first refl))) (λ t. t) q a by.says
+
+  -- a group whose stores never fail stays at its first
+  pub stays_first : (b : Bool) → (IsTrue b → g.active ≡ 0) → ((s : S) → IsTrue b → store.faults s ≡ 0) → (a : Answer) → Round a → IsTrue b → h.active ≡ 0
+  stays_first false first sure a round t = absurd (false≢true t)
+  stays_first true first sure a round t =
+      active_answers store q g.retries id out a g.active h.active g.stores h.stores (all_quiet store (λ s. sure s refl) h.stores) inside round ∙ first refl
 
   -- the group was asked, and one of its stores answered
   pub asked_as : (same : h.retries ≡ g.retries) (counts : g.failed ≤ h.failed) → ((s : S) → IsTrue store.told_never_fail → IsSome (store.holds s) → store.faults s ≡ 0) → (b : Bool) → ((s : S) → IsTrue b → store.faults s ≡ 0)

@@ -4,14 +4,15 @@ use Rattle.std.specs.List.{AllByRecursion, AllZip}
 use Rattle.std.proofs.Math.Nat.{add-div_right, add-mul, div-mul-le_self, mod-lt, mul-le-mul_right}
 use Rattle.std.proofs.Math.Seq.{drop-append_seam, take-append_seam}
 use Rattle.std.proofs.lemmas.Nat.{div-add-mod', le-div}
-use Rattle.chunk_store.specs.Asks.{Sends}
+use Rattle.chunk_store.proofs.Sends.{sends_still}
+use Rattle.chunk_store.specs.Asks.{Sends, sends_nothing}
 use Rattle.chunk_store.specs.Members.{maps_of, told_together}
 use Rattle.chunk_store.specs.Said.{AskedOnce, KeepsOf}
 use Rattle.chunk_store.specs.declared.store.Store.{Ghosts as StoreWords}
 use Rattle.dsy_base.specs.Counts.{raised}
 use Rattle.dsy_base.specs.Maps.{Map}
 use Rattle.store_group.specs.Answers.{AnswersAt, AnswersFirst, AnswersRound, AskedUpTo, FailsAll, AnswerSays, ask_for, times_for, times_other}
-use Rattle.store_group.specs.Groups.{Grouped, as_store_by, SomeStore, asked_name, files_code, group_count, group_place, told_or_all, most, of_one, of_store, places_of, questions_of, said_of, said_steady, sent_of, steady_of, told_file_code}
+use Rattle.store_group.specs.Groups.{AtStore, Grouped, as_store_by, SomeStore, group_count, group_place, told_or_all, most, of_one, of_store, places_of, questions_of, said_of, said_steady, sent_of, steady_of}
 use Rattle.store_group.specs.declared.answer.Answer.{Answer}
 use Rattle.store_group.specs.declared.answer.Answer.TheVariants as answer
 use Rattle.store_group.specs.declared.answer.Question.{Question}
@@ -60,6 +61,15 @@ module _ {S : Type 0} (store : StoreWords S) (q : Question) (id : List ℕ) (out
   some_answers P f (suc k) (s ∷ old) [] h = absurd h
   some_answers P f zero (s ∷ old) (x ∷ xs) h = inl (f s x h.0)
   some_answers P f (suc k) (s ∷ old) (x ∷ xs) h = inr (some_answers P f k old xs h)
+
+  -- what holds of the store that answered holds of the store of its number
+  pub at_answers : (P : S → Type 0) → ((s t : S) → AnswerSays store q id s t out a → P t) → (k : ℕ) (old xs : List S) → AnswersAt store q id k old xs out a → AtStore P k xs
+  at_answers P f zero [] xs h = absurd h
+  at_answers P f (suc k) [] xs h = absurd h
+  at_answers P f zero (s ∷ old) [] h = absurd h
+  at_answers P f (suc k) (s ∷ old) [] h = absurd h
+  at_answers P f zero (s ∷ old) (x ∷ xs) h = f s x h.0
+  at_answers P f (suc k) (s ∷ old) (x ∷ xs) h = at_answers P f k old xs h
 
   -- what holds of what it tells holds of what the group tells
   pub one_answers : {X : Type 0} (tells : S → Option X) (P : X → Type 0) → ((s t : S) → AnswerSays store q id s t out a → IfSome (tells s) P)
@@ -152,13 +162,14 @@ one_kept R tells f (s ∷ []) (x ∷ y ∷ xs) h = absurd h.1
 one_kept R tells f (s ∷ t ∷ old) (x ∷ []) h = absurd h.1
 one_kept R tells f (s ∷ t ∷ old) (x ∷ y ∷ xs) h = refl
 
+pub each_kept : {S X : Type 0} (R : S → S → Type 0) (tells : S → X) → ((s t : S) → R s t → tells t ≡ tells s) → (old xs : List S) → AllZip R old xs → map tells xs ≡ map tells old
+each_kept R tells f [] [] h = refl
+each_kept R tells f [] (x ∷ xs) h = absurd h
+each_kept R tells f (s ∷ old) [] h = absurd h
+each_kept R tells f (s ∷ old) (x ∷ xs) h = λ i. f s x h.0 i ∷ each_kept R tells f old xs h.1 i
+
 pub maps_kept : {S : Type 0} (R : S → S → Type 0) (members : S → Option (List (Map (List ℕ)))) → ((s t : S) → R s t → members t ≡ members s) → (old xs : List S) → AllZip R old xs → maps_of members xs ≡ maps_of members old
-maps_kept {S} R members f old xs h = ap told_together (each_kept old xs h) where
-  each_kept : (old xs : List S) → AllZip R old xs → map members xs ≡ map members old
-  each_kept [] [] h = refl
-  each_kept [] (x ∷ xs) h = absurd h
-  each_kept (s ∷ old) [] h = absurd h
-  each_kept (s ∷ old) (x ∷ xs) h = λ i. f s x h.0 i ∷ each_kept old xs h.1 i
+maps_kept R members f old xs h = ap told_together (each_kept R members f old xs h)
 
 pub place_kept : {S : Type 0} (R : S → S → Type 0) (place : S → List ℕ) → ((s t : S) → R s t → place t ≡ place s) → (old xs : List S) → AllZip R old xs → places_of place xs ≡ places_of place old
 place_kept R place f [] [] h = refl
@@ -173,6 +184,12 @@ some_kept R P Q f (s ∷ old) [] h some = absurd h
 some_kept R P Q f (s ∷ old) (x ∷ xs) h (inl p) = inl (f s x h.0 p)
 some_kept R P Q f (s ∷ old) (x ∷ xs) h (inr some) = inr (some_kept R P Q f old xs h.1 some)
 
+at_kept : {S : Type 0} (R : S → S → Type 0) (P Q : S → Type 0) → ((s t : S) → R s t → P s → Q t) → (k : ℕ) (old xs : List S) → AllZip R old xs → AtStore P k old → AtStore Q k xs
+at_kept R P Q f k [] xs h at = absurd at
+at_kept R P Q f k (s ∷ old) [] h at = absurd h
+at_kept R P Q f zero (s ∷ old) (x ∷ xs) h at = f s x h.0 at
+at_kept R P Q f (suc k) (s ∷ old) (x ∷ xs) h at = at_kept R P Q f k old xs h.1 at
+
 module _ {S : Type 0} (store : StoreWords S) (q : Question) (n : ℕ) (id : List ℕ) where
   abbrev Asked : S → S → Type 0
   Asked = AskedUpTo store q n id
@@ -183,22 +200,20 @@ module _ {S : Type 0} (store : StoreWords S) (q : Question) (n : ℕ) (id : List
     shown = λ b. some_kept Asked (λ s. (store.said s).shown x b) (λ s. (store.said s).shown x b) (λ s t r. (r.said x).shown b) old xs h;
     longer = λ m. some_kept Asked (λ s. (store.said s).longer x m) (λ s. (store.said s).longer x m) (λ s t r. (r.said x).longer m) old xs h;
     taken = λ b. some_kept Asked (λ s. (store.said s).taken x b) (λ s. (store.said s).taken x b) (λ s t r. (r.said x).taken b) old xs h;
+    shown_by = λ k b. at_kept Asked (λ s. (store.said s).shown x b) (λ s. (store.said s).shown x b) (λ s t r. (r.said x).shown b) k old xs h;
+    longer_by = λ k m. at_kept Asked (λ s. (store.said s).longer x m) (λ s. (store.said s).longer x m) (λ s t r. (r.said x).longer m) k old xs h;
   }
 
-  code_kept : (name : List ℕ) (old xs : List S) → AllZip Asked old xs → files_code store.folder xs name ≡ files_code store.folder old name
-  code_kept name [] [] h = refl
-  code_kept name [] (x ∷ xs) h = absurd h
-  code_kept name (s ∷ old) [] h = absurd h
-  code_kept name (s ∷ old) (x ∷ xs) h = λ i. told_file_code (h.0.folder i) name ++ code_kept name old xs h.1 i
+  sent_next : (s x : S) (old xs : List S) → Sends (λ a. a ≡ ask_for q id) (store.sent s) (store.sent x) → Sends (λ a. a ≡ ask_for q id) (sent_of store.sent old) (sent_of store.sent xs)
+      → Sends (λ a. a ≡ ask_for q id) (sent_of store.sent (s ∷ old)) (sent_of store.sent (x ∷ xs))
+  sent_next s x old xs first rest zero = first zero
+  sent_next s x old xs first rest (suc n) = rest n
 
-  pub sent_kept : (old xs : List S) → AllZip Asked old xs → Sends (λ a. a ≡ ask_for q id) (sent_of store.sent store.folder old) (sent_of store.sent store.folder xs)
-  sent_kept [] [] h = record { spells = refl; ended = refl }
+  pub sent_kept : (old xs : List S) → AllZip Asked old xs → Sends (λ a. a ≡ ask_for q id) (sent_of store.sent old) (sent_of store.sent xs)
+  sent_kept [] [] h = sends_still (λ a. a ≡ ask_for q id) sends_nothing
   sent_kept [] (x ∷ xs) h = absurd h
   sent_kept (s ∷ old) [] h = absurd h
-  sent_kept (s ∷ []) (x ∷ []) h = h.0.sends
-  sent_kept (s ∷ []) (x ∷ y ∷ xs) h = absurd h.1
-  sent_kept (s ∷ t ∷ old) (x ∷ []) h = absurd h.1
-  sent_kept (s ∷ t ∷ old) (x ∷ y ∷ xs) h = record { spells = λ i a. code_kept (asked_name a) (s ∷ t ∷ old) (x ∷ y ∷ xs) h i; ended = refl }
+  sent_kept (s ∷ old) (x ∷ xs) h = sent_next s x old xs h.0.sends (sent_kept old xs h.1)
 
 -- ---- how often stores were asked
 
@@ -288,32 +303,34 @@ of_all (s ∷ stores) (inr h) = of_all stores h
 
 module _ {S : Type 0} (store : StoreWords S) (id : List ℕ) (out : List ℕ) (g h : Grouped S) where
   -- what the store says that answered, the group says
-  pub group_says : (q : Question) (a : Answer) (k : ℕ) → AnswersAt store q id k g.stores h.stores out a → AnswerSays (as_steady false store) q id g h out a
-  group_says question.Get (answer.Given n) k at = (
-    of_all h.stores (some_answers store question.Get id out (answer.Given n) (λ t. n ≤ length out) (λ s t says. says.0) k g.stores h.stores at),
-    some_answers store question.Get id out (answer.Given n) (λ t. (store.said t).shown id (take n out)) (λ s t says. says.1) k g.stores h.stores at,
-    one_answers store question.Get id out (answer.Given n) store.holds (λ m. m id ≡ Some (take n out)) (λ s t says. says.2) k g.stores h.stores at,
+  pub group_says : (q : Question) (a : Answer) → AnswersAt store q id h.active g.stores h.stores out a → AnswerSays (as_steady false store) q id g h out a
+  group_says question.Get (answer.Given n) at = (
+    of_all h.stores (some_answers store question.Get id out (answer.Given n) (λ t. n ≤ length out) (λ s t says. says.0) h.active g.stores h.stores at),
+    some_answers store question.Get id out (answer.Given n) (λ t. (store.said t).shown id (take n out)) (λ s t says. says.1) h.active g.stores h.stores at,
+    one_answers store question.Get id out (answer.Given n) store.holds (λ m. m id ≡ Some (take n out)) (λ s t says. says.2) h.active g.stores h.stores at,
+    at_answers store question.Get id out (answer.Given n) (λ t. (store.said t).shown id (take n out)) (λ s t says. says.1) h.active g.stores h.stores at,
   )
-  group_says question.Get answer.Missing k at = (
-    some_answers store question.Get id out answer.Missing (λ t. (store.said t).denied id) (λ s t says. says.0) k g.stores h.stores at,
-    one_answers store question.Get id out answer.Missing store.holds (λ m. m id ≡ None) (λ s t says. says.1) k g.stores h.stores at,
+  group_says question.Get answer.Missing at = (
+    some_answers store question.Get id out answer.Missing (λ t. (store.said t).denied id) (λ s t says. says.0) h.active g.stores h.stores at,
+    one_answers store question.Get id out answer.Missing store.holds (λ m. m id ≡ None) (λ s t says. says.1) h.active g.stores h.stores at,
   )
-  group_says question.Get answer.Longer k at = (
-    some_answers store question.Get id out answer.Longer (λ t. (store.said t).longer id (length out)) (λ s t says. says.0) k g.stores h.stores at,
-    one_answers store question.Get id out answer.Longer store.holds (λ m. (b : List ℕ) × (m id ≡ Some b) × (length out < length b)) (λ s t says. says.1) k g.stores h.stores at,
+  group_says question.Get answer.Longer at = (
+    some_answers store question.Get id out answer.Longer (λ t. (store.said t).longer id (length out)) (λ s t says. says.0) h.active g.stores h.stores at,
+    one_answers store question.Get id out answer.Longer store.holds (λ m. (b : List ℕ) × (m id ≡ Some b) × (length out < length b)) (λ s t says. says.1) h.active g.stores h.stores at,
+    at_answers store question.Get id out answer.Longer (λ t. (store.said t).longer id (length out)) (λ s t says. says.0) h.active g.stores h.stores at,
   )
-  group_says question.Get (answer.There has) k at = of_all h.stores (some_answers store question.Get id out (answer.There has) (λ t. ⊥) (λ s t says. says) k g.stores h.stores at)
-  group_says question.Get answer.Failed k at = tt
-  group_says question.Get answer.Memory k at = of_all h.stores (some_answers store question.Get id out answer.Memory (λ t. IsTrue store.may_lack_memory) (λ s t says. says) k g.stores h.stores at)
-  group_says question.Has (answer.There has) k at = (
-    (λ no. some_answers store question.Has id out (answer.There has) (λ t. (store.said t).denied id) (λ s t says. says.0 no) k g.stores h.stores at),
-    one_answers store question.Has id out (answer.There has) store.holds (λ m. has ≡ is_some (m id)) (λ s t says. says.1) k g.stores h.stores at,
+  group_says question.Get (answer.There has) at = of_all h.stores (some_answers store question.Get id out (answer.There has) (λ t. ⊥) (λ s t says. says) h.active g.stores h.stores at)
+  group_says question.Get answer.Failed at = tt
+  group_says question.Get answer.Memory at = of_all h.stores (some_answers store question.Get id out answer.Memory (λ t. IsTrue store.may_lack_memory) (λ s t says. says) h.active g.stores h.stores at)
+  group_says question.Has (answer.There has) at = (
+    (λ no. some_answers store question.Has id out (answer.There has) (λ t. (store.said t).denied id) (λ s t says. says.0 no) h.active g.stores h.stores at),
+    one_answers store question.Has id out (answer.There has) store.holds (λ m. has ≡ is_some (m id)) (λ s t says. says.1) h.active g.stores h.stores at,
   )
-  group_says question.Has (answer.Given n) k at = of_all h.stores (some_answers store question.Has id out (answer.Given n) (λ t. ⊥) (λ s t says. says) k g.stores h.stores at)
-  group_says question.Has answer.Missing k at = of_all h.stores (some_answers store question.Has id out answer.Missing (λ t. ⊥) (λ s t says. says) k g.stores h.stores at)
-  group_says question.Has answer.Longer k at = of_all h.stores (some_answers store question.Has id out answer.Longer (λ t. ⊥) (λ s t says. says) k g.stores h.stores at)
-  group_says question.Has answer.Failed k at = tt
-  group_says question.Has answer.Memory k at = of_all h.stores (some_answers store question.Has id out answer.Memory (λ t. IsTrue store.may_lack_memory) (λ s t says. says) k g.stores h.stores at)
+  group_says question.Has (answer.Given n) at = of_all h.stores (some_answers store question.Has id out (answer.Given n) (λ t. ⊥) (λ s t says. says) h.active g.stores h.stores at)
+  group_says question.Has answer.Missing at = of_all h.stores (some_answers store question.Has id out answer.Missing (λ t. ⊥) (λ s t says. says) h.active g.stores h.stores at)
+  group_says question.Has answer.Longer at = of_all h.stores (some_answers store question.Has id out answer.Longer (λ t. ⊥) (λ s t says. says) h.active g.stores h.stores at)
+  group_says question.Has answer.Failed at = tt
+  group_says question.Has answer.Memory at = of_all h.stores (some_answers store question.Has id out answer.Memory (λ t. IsTrue store.may_lack_memory) (λ s t says. says) h.active g.stores h.stores at)
 
 module _ {S : Type 0} (store : StoreWords S) (id : List ℕ) (g h : Grouped S) (same : h.retries ≡ g.retries) where
   pub group_place_kept : (q : Question) → AllZip (AskedUpTo store q (g.retries + 1) id) g.stores h.stores → group_place store.place h ≡ group_place store.place g
@@ -340,6 +357,7 @@ module _ {S : Type 0} (store : StoreWords S) (id : List ℕ) (g h : Grouped S) (
         holds = one_kept (Turned question.Get) store.holds (λ s t r. r.holds) g.stores h.stores turns;
         members = λ i. told_or_all (one_kept (Turned question.Get) store.holds (λ s t r. r.holds) g.stores h.stores turns i) (maps_kept (Turned question.Get) store.members (λ s t r. r.members) g.stores h.stores turns i);
         folder = one_kept (Turned question.Get) store.folder (λ s t r. r.folder) g.stores h.stores turns;
+        folders = each_kept (Turned question.Get) store.folder (λ s t r. r.folder) g.stores h.stores turns;
         place = group_place_kept store id g h same question.Get turns;
         said = said_kept store question.Get (g.retries + 1) id g.stores h.stores turns;
         sends = sent_kept store question.Get (g.retries + 1) id g.stores h.stores turns;
@@ -356,6 +374,7 @@ module _ {S : Type 0} (store : StoreWords S) (id : List ℕ) (g h : Grouped S) (
         holds = one_kept (Turned question.Has) store.holds (λ s t r. r.holds) g.stores h.stores turns;
         members = λ i. told_or_all (one_kept (Turned question.Has) store.holds (λ s t r. r.holds) g.stores h.stores turns i) (maps_kept (Turned question.Has) store.members (λ s t r. r.members) g.stores h.stores turns i);
         folder = one_kept (Turned question.Has) store.folder (λ s t r. r.folder) g.stores h.stores turns;
+        folders = each_kept (Turned question.Has) store.folder (λ s t r. r.folder) g.stores h.stores turns;
         place = group_place_kept store id g h same question.Has turns;
         said = said_kept store question.Has (g.retries + 1) id g.stores h.stores turns;
         sends = sent_kept store question.Has (g.retries + 1) id g.stores h.stores turns;

@@ -15,6 +15,7 @@ module _ {S : Type 0} (store : StoreWords S) (q : Question) (id : List ℕ) wher
     holds = refl;
     members = refl;
     folder = refl;
+    folders = refl;
     place = refl;
     said = λ x. keeps_itself (store.said s) x;
     sends = sends_still (λ a. a ≡ ask_for q id) (store.sent s);
@@ -32,6 +33,7 @@ module _ {S : Type 0} (store : StoreWords S) (q : Question) (id : List ℕ) wher
     holds = then.holds ∙ first.holds;
     members = then.members ∙ first.members;
     folder = then.folder ∙ first.folder;
+    folders = then.folders ∙ first.folders;
     place = then.place ∙ first.place;
     said = λ x. keeps_on (store.said s) (store.said t) (store.said u) x (first.said x) (then.said x);
     sends = sends_on (λ a. a ≡ ask_for q id) (store.sent s) (store.sent t) (store.sent u) first.sends then.sends;
@@ -58,6 +60,7 @@ module _ {S : Type 0} (store : StoreWords S) (q : Question) (id : List ℕ) wher
     holds = h.holds;
     members = h.members;
     folder = h.folder;
+    folders = h.folders;
     place = h.place;
     said = h.said;
     sends = h.sends;

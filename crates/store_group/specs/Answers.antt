@@ -58,6 +58,7 @@ module _ {S : Type 0} (store : StoreWords S) where
     pub holds : store.holds t ≡ store.holds s
     pub members : store.members t ≡ store.members s
     pub folder : store.folder t ≡ store.folder s
+    pub folders : store.folders t ≡ store.folders s
     pub place : store.place t ≡ store.place s
     pub said : (x : List ℕ) → KeepsOf (store.said s) (store.said t) x
     pub sends : Sends (λ a. a ≡ ask_for q id) (store.sent s) (store.sent t)
@@ -73,10 +74,12 @@ module _ {S : Type 0} (store : StoreWords S) where
   abbrev pub AnswerSays : Question → List ℕ → S → S → List ℕ → Answer → Type 0
   AnswerSays question.Get id s t out (answer.Given n) = (n ≤ length out) × (store.said t).shown id (take n out)
       × IfSome (store.holds s) (λ m. m id ≡ Some (take n out))
+      × (store.said t).shown_by (store.giver t) id (take n out)
   AnswerSays question.Get id s t out answer.Missing = (store.said t).denied id
       × IfSome (store.holds s) (λ m. m id ≡ None)
   AnswerSays question.Get id s t out answer.Longer = (store.said t).longer id (length out)
       × IfSome (store.holds s) (λ m. (b : List ℕ) × (m id ≡ Some b) × (length out < length b))
+      × (store.said t).longer_by (store.giver t) id (length out)
   AnswerSays question.Get id s t out (answer.There has) = ⊥
   AnswerSays question.Has id s t out (answer.There has) = (has ≡ false → (store.said t).denied id)
       × IfSome (store.holds s) (λ m. has ≡ is_some (m id))

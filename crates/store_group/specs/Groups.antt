@@ -3,17 +3,17 @@
 -- while it is active, where all stores tell what they hold, and those of their type that tell never fail. Else a group
 -- of one store tells what that store tells, and several tell nothing together, since any of them may answer. Its
 -- members are its stores then, which tell what they hold if all of them do.
-use Rattle.std.specs.Prelude.{◌≡◌, ◌≢◌, ◌⊎◌, ℕ, zero, suc, ◌+◌, ◌*◌, ◌/◌, ◌≤◌, List, [], ◌∷◌, ◌++◌, length, max}
+use Rattle.std.specs.Prelude.{◌≡◌, ◌≢◌, ◌⊎◌, ℕ, zero, suc, ◌+◌, ◌*◌, ◌/◌, ◌≤◌, List, [], ◌∷◌, ◌++◌, length, map, max}
 use Rattle.std.specs.Prelude.{slice_get, is_some}
 use Rattle.std.specs.Prelude.{Bool, true, false, ◌&&◌, IsTrue, IsSome, Option, Some, None, IfSome, refl}
 use Rattle.std.proofs.Common.{inl, inr, ap, arith, ◌∙◌}
 use Rattle.std.proofs.Math.Nat.{div-eq_of_lt}
 use Rattle.std.proofs.lemmas.Bool.{false≢true}
 use Rattle.std.specs.List.{AllByRecursion, AllZip}
-use Rattle.chunk_store.specs.Asks.{Ask, Get, Has, Put, Sent}
+use Rattle.chunk_store.specs.Asks.{Sent, no_requests}
 use Rattle.chunk_store.specs.Folders.{chunks}
 use Rattle.chunk_store.specs.Members.{maps_of}
-use Rattle.chunk_store.specs.Said.{Said, SaysMap, said_by, says_map}
+use Rattle.chunk_store.specs.Said.{Said, SaysMap, alone, said_by, says_alone, says_map}
 use Rattle.chunk_store.specs.declared.store.Store.{Ghosts as StoreWords}
 use Rattle.dsy_base.specs.Counts.{Rose, raised}
 use Rattle.dsy_base.specs.Maps.{Map}
@@ -45,43 +45,28 @@ abbrev pub SomeStore : {S : Type 0} → (S → Type 0) → List S → Type 0
 SomeStore P [] = ⊥
 SomeStore P (s ∷ stores) = P s ⊎ SomeStore P stores
 
--- what some store has said
+-- there is a store of this number, and it is as P says
+abbrev pub AtStore : {S : Type 0} → (S → Type 0) → ℕ → List S → Type 0
+AtStore P k [] = ⊥
+AtStore P zero (s ∷ stores) = P s
+AtStore P (suc k) (s ∷ stores) = AtStore P k stores
+
+-- what some store has said, and the store of a number
 abbrev pub said_of : {S : Type 0} → (S → Said) → List S → Said
 said_of said stores = record {
   denied = λ id. SomeStore (λ s. (said s).denied id) stores;
   shown = λ id b. SomeStore (λ s. (said s).shown id b) stores;
   longer = λ id n. SomeStore (λ s. (said s).longer id n) stores;
   taken = λ id b. SomeStore (λ s. (said s).taken id b) stores;
+  shown_by = λ k id b. AtStore (λ s. (said s).shown id b) k stores;
+  longer_by = λ k id n. AtStore (λ s. (said s).longer id n) k stores;
 }
 
--- the name that is asked for
-abbrev pub asked_name : Ask → List ℕ
-asked_name (Get id) = id
-asked_name (Has id) = id
-asked_name (Put id b) = id
-
--- a file that isn't there, and one that is
-abbrev pub file_code : Option (List ℕ) → List ℕ
-file_code None = 0 ∷ []
-file_code (Some b) = 1 ∷ length b ∷ b
-
--- what lies under the name, where files are told
-abbrev pub told_file_code : Option (Map (List ℕ)) → List ℕ → List ℕ
-told_file_code None name = 2 ∷ []
-told_file_code (Some files) name = file_code (files name)
-
--- what lies under the name in the folder of each store, one after the other
-abbrev pub files_code : {S : Type 0} → (S → Option (Map (List ℕ))) → List S → List ℕ → List ℕ
-files_code folder [] name = []
-files_code folder (s ∷ stores) name = told_file_code (folder s) name ++ files_code folder stores name
-
--- what one store has sent. What several send isn't told. They spell an ask for a name by what lies under it in their
--- folders, which no call changes
-abbrev pub sent_of : {S : Type 0} → (S → Sent) → (S → Option (Map (List ℕ))) → List S → Sent
-sent_of sent folder [] = record { spells = λ a. []; ended = None }
-sent_of sent folder (s ∷ []) = sent s
-sent_of sent folder (s ∷ t ∷ stores) =
-    record { spells = λ a. files_code folder (s ∷ t ∷ stores) (asked_name a); ended = None }
+-- what the store of a number has sent. Where there is none, nothing was
+abbrev pub sent_of : {S : Type 0} → (S → Sent) → List S → Sent
+sent_of sent [] n = no_requests
+sent_of sent (s ∷ stores) zero = sent s 0
+sent_of sent (s ∷ stores) (suc n) = sent_of sent stores n
 
 -- the greatest of some numbers
 abbrev pub most : {S : Type 0} → (S → ℕ) → List S → ℕ
@@ -123,7 +108,7 @@ no_chunks id = None
 -- what the store has said. No store says that nothing is held
 abbrev pub said_of_store : {S : Type 0} → (S → Said) → Option S → Said
 said_of_store said None = said_by (Some no_chunks)
-said_of_store said (Some s) = said s
+said_of_store said (Some s) = alone (said s)
 
 -- ---- a group whose stores tell, where those of their type that tell never fail
 
@@ -150,7 +135,7 @@ seen_of f stores o = of_store (of_one f stores) f o
 -- what that store has said, or else what some store has
 abbrev pub said_steady : {S : Type 0} → (S → Said) → List S → Option S → Said
 said_steady said stores None = said_of said stores
-said_steady said stores (Some s) = said s
+said_steady said stores (Some s) = alone (said s)
 
 -- ---- the group as one store
 
@@ -197,8 +182,10 @@ as_store_by sure store = record {
   holds = group_holds sure store.told_never_fail store.holds;
   members = group_members sure store.told_never_fail store.holds store.members;
   folder = group_folder sure store.told_never_fail store.holds store.folder;
+  folders = λ g. map store.folder g.stores;
+  giver = λ g. g.active;
   said = group_told sure store.told_never_fail store.holds store.said;
-  sent = λ g. sent_of store.sent store.folder g.stores;
+  sent = λ g. sent_of store.sent g.stores;
   asked = group_times sure store.asked;
   queried = group_times sure store.queried;
   faults = group_faults sure;
@@ -238,6 +225,11 @@ of_either : {A : Type 0} → A ⊎ ⊥ → A
 of_either (inl a) = a
 of_either (inr e) = absurd e
 
+-- the only store is the first
+first_of : {S : Type 0} (P : S → Type 0) (k : ℕ) (s : S) → AtStore P k (s ∷ []) → k ≡ 0
+first_of P zero s at = refl
+first_of P (suc k) s at = absurd at
+
 says_same : {S : Type 0} (said : S → Said) (s : S) (m : Map (List ℕ)) → SaysMap (said s) m
     → SaysMap (said_of said (s ∷ [])) m
 says_same said s m h = record {
@@ -245,6 +237,8 @@ says_same said s m h = record {
   shown = λ id b. (λ d. (h.shown id b).0 (of_either d), λ e. inl ((h.shown id b).1 e));
   longer = λ id n. (λ d. (h.longer id n).0 (of_either d), λ e. inl ((h.longer id n).1 e));
   taken = λ id b. (λ d. (h.taken id b).0 (of_either d), λ e. inl ((h.taken id b).1 e));
+  shown_by = λ k id b. first_of (λ t. (said t).shown id b) k s;
+  longer_by = λ k id n. first_of (λ t. (said t).longer id n) k s;
 }
 
 -- two that are both true
@@ -303,7 +297,8 @@ module _ {S : Type 0} (holds : S → Option (Map (List ℕ))) where
   says_some : (said : S → Said) → ((s : S) → IfSome (holds s) (SaysMap (said s))) → (o : Option S)
       → IfSome (of_store (Some no_chunks) holds o) (SaysMap (said_of_store said o))
   says_some said says None = says_map (Some no_chunks)
-  says_some said says (Some s) = says s
+  says_some said says (Some s) =
+      if_some (SaysMap (said s)) (SaysMap (alone (said s))) (says_alone (said s)) (holds s) (says s)
 
   lies_some : (folder : S → Option (Map (List ℕ))) → ((s : S) → IfSome (folder s) (λ m. holds s ≡ Some (chunks m)))
       → (o : Option S) → IfSome (of_store None folder o) (λ m. of_store (Some no_chunks) holds o ≡ Some (chunks m))
@@ -326,7 +321,8 @@ module _ {S : Type 0} (holds : S → Option (Map (List ℕ))) where
   says_steady : (said : S → Said) → ((s : S) → IfSome (holds s) (SaysMap (said s))) → (stores : List S) (o : Option S)
       → IfSome (seen_of holds stores o) (SaysMap (said_steady said stores o))
   says_steady said says stores None = says_one said says stores
-  says_steady said says stores (Some s) = says s
+  says_steady said says stores (Some s) =
+      if_some (SaysMap (said s)) (SaysMap (alone (said s))) (says_alone (said s)) (holds s) (says s)
 
   lies_steady : (folder : S → Option (Map (List ℕ))) → ((s : S) → IfSome (folder s) (λ m. holds s ≡ Some (chunks m)))
       → (stores : List S) (o : Option S) → IfSome (seen_of folder stores o)

@@ -6,9 +6,8 @@ use Rattle.std.proofs.lemmas.Option.{none-some, same_Some}
 use Rattle.std.specs.List.{Any}
 use Rattle.std.specs.Option.{option_map}
 use Rattle.chunk_store.proofs.Members.{any_left, any_right}
-use Rattle.chunk_store.proofs.Said.{keeps_itself}
 use Rattle.chunk_store.specs.Members.{maps_of, told_together}
-use Rattle.chunk_store.specs.Said.{KeepsOf, Said, SaysAmong, SaysMap, vouched_alone}
+use Rattle.chunk_store.specs.Said.{Said, SaysAmong, SaysMap, alone, vouched_alone}
 use Rattle.dsy_base.specs.Maps.{Map}
 use Rattle.store_group.specs.Groups.{Grouped, SomeStore, active_store, all_tell, group_holds, group_members, group_told}
 use Rattle.store_group.specs.Groups.{if_some, no_chunks, of_store, said_of, said_of_store, said_steady, says_by}
@@ -67,14 +66,19 @@ some_at P (suc k) [] s is p = absurd (none-some s is)
 some_at P zero (x ∷ stores) s is p = inl (subst P (sym (same_Some x s is)) p)
 some_at P (suc k) (x ∷ stores) s is p = inr (some_at P k stores s is p)
 
--- what the store of this number has said, some store has said
+-- what was said of an id, some store has said
+record SaidIn {S : Type 0} (said : S → Said) (stores : List S) (d : Said) (q : List ℕ) : Type 0 where
+  denied : d.denied q → SomeStore (λ x. (said x).denied q) stores
+  shown : (b : List ℕ) → d.shown q b → SomeStore (λ x. (said x).shown q b) stores
+  longer : (n : ℕ) → d.longer q n → SomeStore (λ x. (said x).longer q n) stores
+
+-- so it is of what the store of this number has said
 said_there : {S : Type 0} (said : S → Said) (k : ℕ) (stores : List S) (s : S) → slice_get stores k ≡ Some s
-    → (q : List ℕ) → KeepsOf (said s) (said_of said stores) q
+    → (q : List ℕ) → SaidIn said stores (alone (said s)) q
 said_there said k stores s is q = record {
   denied = some_at (λ x. (said x).denied q) k stores s is;
   shown = λ b. some_at (λ x. (said x).shown q b) k stores s is;
   longer = λ n. some_at (λ x. (said x).longer q n) k stores s is;
-  taken = λ b. some_at (λ x. (said x).taken q b) k stores s is;
 }
 
 module _ {S : Type 0} (said : S → Said) (members : S → Option (List (Map (List ℕ))))
@@ -90,7 +94,7 @@ module _ {S : Type 0} (said : S → Said) (members : S → Option (List (Map (Li
   so_among Q s f = if_some (SaysAmong (said s)) (Any Q) f (members s) (vouched s)
 
   -- what some store has said is so of one of the told maps of all stores
-  among_said : (d : Said) (stores : List S) → ((q : List ℕ) → KeepsOf d (said_of said stores) q)
+  among_said : (d : Said) (stores : List S) → ((q : List ℕ) → SaidIn said stores d q)
       → IfSome (maps_of members stores) (SaysAmong d)
   among_said d stores keeps = among_of d (maps_of members stores)
       (λ id h. of_some (λ s. (said s).denied id) (λ m. m id ≡ None)
@@ -102,7 +106,8 @@ module _ {S : Type 0} (said : S → Said) (members : S → Option (List (Map (Li
       (λ maps says. says.longer id n p)) stores ((keeps id).longer n h))
 
   among_all : (stores : List S) → IfSome (maps_of members stores) (SaysAmong (said_of said stores))
-  among_all stores = among_said (said_of said stores) stores (λ q. keeps_itself (said_of said stores) q)
+  among_all stores = among_said (said_of said stores) stores
+      (λ q. record { denied = λ h. h; shown = λ b h. h; longer = λ n h. h })
 
 -- ---- by whether the stores never fail, and whether those that tell never do
 
@@ -119,14 +124,14 @@ module _ {S : Type 0} (holds : S → Option (Map (List ℕ))) where
     among_steady false n stores = among_all said members vouched stores
     among_steady true (suc n) stores = among_all said members vouched stores
     among_steady true zero [] = among_all said members vouched []
-    among_steady true zero (s ∷ stores) = among_said said members vouched (said s) (s ∷ stores)
+    among_steady true zero (s ∷ stores) = among_said said members vouched (alone (said s)) (s ∷ stores)
         (said_there said zero (s ∷ stores) s refl)
 
     among_active : (k : ℕ) (stores : List S) (o : Option S) → slice_get stores k ≡ o
         → of_store (Some no_chunks) holds o ≡ None
         → IfSome (maps_of members stores) (SaysAmong (said_of_store said o))
     among_active k stores None is none = absurd (none-some no_chunks (sym none))
-    among_active k stores (Some s) is none = among_said said members vouched (said s) stores
+    among_active k stores (Some s) is none = among_said said members vouched (alone (said s)) stores
         (said_there said k stores s is)
 
     -- what it has said is so of one of the told maps of its members

@@ -1,6 +1,6 @@
 //! Groups of stores. A group is a store itself. Stores are numbered from 0.
 
-ghost use Rattle.std.specs.Prelude.{[], ◌≡◌, ◌≢◌, ◌<◌, ◌≤◌, ◌+◌, length, vec_len};
+ghost use Rattle.std.specs.Prelude.{IsTrue, [], ◌≡◌, ◌≢◌, ◌<◌, ◌≤◌, ◌+◌, length, vec_len};
 ghost use Rattle.std.specs.List.{AllZip};
 ghost use Rattle.dsy_base.specs.Counts.{raised};
 ghost use Rattle.store_group.specs.Answers.{AnswerSays, AnswersRound, AskedUpTo, FailsAll, IsAbout, answer_to_get};
@@ -25,19 +25,20 @@ pub struct Group<S: Store> {
 }
 
 impl<S: Store> Model for Group<S> {
-    ghost use Rattle.std.specs.Prelude.{◌<◌, length};
+    ghost use Rattle.std.specs.Prelude.{◌≡◌, ◌<◌, length, IsTrue};
     ghost use Rattle.store_group.specs.Groups.{Grouped, CountsFailures};
 
     ghost Value = { Grouped S };
 
     ghost view = { λ g. record { stores = g.stores.items; active = g.active; retries = g.retries; failed = g.failed } };
 
-    ghost invariant = { λ g. (g.active < length g.stores.items) × CountsFailures S.faults (record {
-      stores = g.stores.items;
-      active = g.active;
-      retries = g.retries;
-      failed = g.failed;
-    }) };
+    ghost invariant = { λ g. (g.active < length g.stores.items) × (IsTrue S.never_fails → g.active ≡ 0)
+        × CountsFailures S.faults (record {
+          stores = g.stores.items;
+          active = g.active;
+          retries = g.retries;
+          failed = g.failed;
+        }) };
 }
 
 // What a call of `get` answers.
@@ -145,7 +146,7 @@ impl<S: Store> Group<S> {
 }
 
 impl<S: Store> Store for Group<S> {
-    ghost use Rattle.std.specs.Prelude.{◌&&◌, false};
+    ghost use Rattle.std.specs.Prelude.{◌&&◌, false, map};
     ghost use Rattle.std.proofs.Common.{rules};
     ghost use Rattle.store_group.specs.Groups.{group_faults, group_folder, group_holds, group_members, group_place};
     ghost use Rattle.store_group.specs.Groups.{group_times, group_told, sent_of};
@@ -158,9 +159,13 @@ impl<S: Store> Store for Group<S> {
 
     ghost folder = { λ g. group_folder S.never_fails S.told_never_fail S.holds S.folder g };
 
+    ghost folders = { λ g. map S.folder g.stores };
+
+    ghost giver = { λ g. g.active };
+
     ghost said = { λ g. group_told S.never_fails S.told_never_fail S.holds S.said g };
 
-    ghost sent = { λ g. sent_of S.sent S.folder g.stores };
+    ghost sent = { λ g. sent_of S.sent g.stores };
 
     ghost asked = { λ g. group_times S.never_fails S.asked g };
 
@@ -180,6 +185,10 @@ impl<S: Store> Store for Group<S> {
 
     fn get(&mut self, id: &ChunkId, out: &mut [u8]) -> Result<usize, GetFault> {
         self.ask_for(id, out)
+    }
+
+    fn giver(&self) -> usize {
+        self.active()
     }
 
     fn has(&mut self, id: &ChunkId) -> Result<bool, IoFault> {

@@ -5,6 +5,7 @@ use caibx_fields::fault::IndexFault;
 use chunk_ends::sizes::SizeFault;
 use chunk_store::id::ChunkId;
 use chunk_store::shows::Shows;
+use chunk_store::store::Giver;
 use command_outcome::error_line::put_error_line;
 use command_outcome::line::Line;
 use command_outcome::outcome::Outcome;
@@ -64,7 +65,8 @@ fn each_outcome_with_an_id_has_its_line(rt: HostRuntime) {
     let id = abc(&rt);
     line_is(&rt, alloc, Outcome::Missing { entry: 0, id },
         "desync: chunk 53048e2681941ef99b2e29b76b4c7dabe4c2d0c634fc6d46e0e2f13107e7af23 of entry 0 is missing\n");
-    line_is(&rt, alloc, Outcome::Damaged { entry: 7, id, store: 2, shows: Shows::Longer },
+    let store = Giver { number: 2, member: 0 };
+    line_is(&rt, alloc, Outcome::Damaged { entry: 7, id, store, shows: Shows::Longer },
         "desync: chunk 53048e2681941ef99b2e29b76b4c7dabe4c2d0c634fc6d46e0e2f13107e7af23 of entry 7 is damaged in \
             store 2\n");
     line_is(&rt, alloc, Outcome::Mismatch { entry: 3, got: id },

@@ -1,4 +1,4 @@
-use Rattle.std.proofs.Common.{◌≡◌, ◌<◌, ℕ, All, List, ap, length, map, arith, refl, sym, subst, ◌∙◌}
+use Rattle.std.proofs.Common.{◌≡◌, ℕ, List, ap, length, map, arith, refl, sym, subst, ◌∙◌}
 use Rattle.std.proofs.lemmas.List.{length-map}
 use Rattle.std.proofs.lemmas.List.Elements.{length_all_zip}
 use Rattle.std.specs.List.{AllZip}
@@ -6,7 +6,7 @@ use Rattle.cache_fill.proofs.Fetched.{Went, reader_lost, readers_begin, readers_
 use Rattle.cache_fill.proofs.Progress.{ends_so, fills_none, lost_none, mapped_all, shared_so}
 use Rattle.cache_fill.proofs.Sparing.{fetched_still, none_dealt_lacking}
 use Rattle.chunk_dealing.specs.Dealing.{DealsLacking, owner_of}
-use Rattle.cache_fill.specs.FillProgress.{IsHired, shelf_at}
+use Rattle.cache_fill.specs.FillProgress.{shelf_at}
 use Rattle.cache_store.specs.Shelves.{held_on}
 use Rattle.cache_store.specs.Through.{Behind}
 use Rattle.read_ahead.proofs.Readings.{all_went}

@@ -1,4 +1,4 @@
-use Rattle.std.proofs.Common.{◌≡◌, ◌++◌, ◌∷◌, [], All, arith, map, refl, rules, subst, sym}
+use Rattle.std.proofs.Common.{◌≡◌, [], All, arith, map, refl, rules, subst, sym}
 use Rattle.std.proofs.lemmas.List.Elements.{All-push}
 use Rattle.cache_fill.proofs.Progress.{hired, hired_more, numbered_push}
 use Rattle.cache_fill.specs.FillProgress.{RiseByOne, IsHired}

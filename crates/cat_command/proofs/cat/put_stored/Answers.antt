@@ -4,8 +4,8 @@ use Rattle.cat_command.proofs.Given.{each_weaker}
 use Rattle.cat_command.specs.Cat.{EndsRange, RangePut, asked_times, kept_chunks}
 use Rattle.chunk_store.specs.declared.store.Store.{Ghosts as StoreWords}
 use Rattle.command_groups.proofs.Asked.{groups_asked}
-use Rattle.command_groups.proofs.Seen.{first_active, groups_hold, groups_tell}
-use Rattle.command_groups.proofs.Stand.{active_inside, folders_still, found_after, fresh_first, fresh_tries, groups_many, groups_stand_still, groups_try_still, sizes_stand}
+use Rattle.command_groups.proofs.Seen.{groups_hold, groups_tell}
+use Rattle.command_groups.proofs.Stand.{found_after, fresh_first, fresh_tries, groups_many, groups_stand_still, groups_try_still}
 use Rattle.command_groups.proofs.Standing.{all_groups_stand}
 use Rattle.command_groups.proofs.Words.{group_words, groups_alone}
 use Rattle.command_groups.specs.Groups.{stores_of}
@@ -30,16 +30,6 @@ pub with_kind-chain-requires : goal.with_kind-chain-requires
 with_kind-chain-requires g c =
     let few = groups_many (locations_in g.F.Look.Look.place) c.args.sources.now.groups c.args.sources.now.retries c.in_ok-opened.opened.items (c.in_ok-opened.ensures.located ∙ c.as_slice-groups.ensures) c.requires.groups in
     search rules
-
-pub numbered-answer-requires-clause-sizes : goal.numbered-answer-requires-clause-sizes
-numbered-answer-requires-clause-sizes g c =
-    let place = g.F.Look.Look.place in
-    let before = c.in_ok-opened.opened.items in
-    let after = c.put_from-chain.result.0.stores in
-    let kept = rw c.with_kind-chain.ensures.value at c.put_from-chain.ensures.kept in
-    let located = groups_stand_still place before after kept.places ∙ c.in_ok-opened.ensures.located in
-    let items = c.as_slice.ensures.value ∙ c.into_stores-asked.ensures.value in
-    rw items (sizes_stand place after c.as_slice-groups.result.now located)
 
 pub close_groups-requires : goal.close_groups-requires
 close_groups-requires g c =
@@ -83,23 +73,17 @@ returns g c =
     let v = world (at c.close_groups.new.files) (state c.close_groups.new.dial) (g.O.Sink.output c.put_from-chain.new.out) in
     let F : Option (Map (Map (List ℕ))) → Type 0 = λ o. IfSome o (λ m. map (files_in look.files) before ≡ map (map (location_files m)) groups) in
     let found : F u.disk.folders = subst F (sym opened.kept.folders) (subst (λ (l : List (List Location)). IfSome w.disk.folders (λ m. map (files_in look.files) before ≡ map (map (location_files m)) l)) named opened.found) in
-    let still = folders_still place sure look.files state (IsCoveredGet l from n) before after stands kept.files kept.sends in
     let closed = rw c.into_stores-asked.ensures.value at c.close_groups.ensures.given in
     let consults = rw c.into_stores-asked.ensures.value at c.close_groups.ensures.kept in
     let ended = rw c.into_stores-asked.ensures.value at c.close_groups.ensures.ended in
-    let stand = all_groups_stand sure look.files place look.faults state e (storage_of u) (storage_of v) after groups located (found_after look.files u.disk.folders before after groups still found) tries closed in
-    let active : All (λ (h : Grouped (AnyStore g.row.F-Look.Denot g.row.D.Denot g.row.D-Link.Denot)). h.active < length h.stores) after = λ k d lt. (closed k d lt).active in
-    let inside = active_inside place after groups located active in
+    let stand = all_groups_stand sure look.files place look.faults state e (storage_of u) (storage_of v) after groups located (found_after look.files u.disk.folders before after groups kept.folders found) tries closed in
     let chain : Chained (Grouped (AnyStore g.row.F-Look.Denot g.row.D.Denot g.row.D-Link.Denot)) = record { stores = before; asks = 0; kind = c.kind.result } in
-    let range = ends_between sure words (locations_in place) files e u v groups l c.rules.ensures from n chain c.put_from-chain.result.0 c.kind.ensures (groups_hold sure look.files before) (groups_tell sure look.files u.disk.folders before groups first found) located stand (groups_alone look state)
-    (map (λ g. g.active) after) inside (λ fs told. first_active sure look.files after fs (kept.files ∙ told) active) c.put_from-chain.result.1 ends in
-    let asked = groups_asked place state look.files e (asked_times l from n) (λ id. 0) (IsCoveredGet l from n) before after groups u.dial.ended v.dial.ended opened.unused tries stands
+    let range = ends_between sure words (locations_in place) files e u v groups l c.rules.ensures from n chain c.put_from-chain.result.0 c.kind.ensures (groups_hold sure look.files before) (groups_tell sure look.files u.disk.folders before groups first found) located stand (groups_alone look state) c.put_from-chain.result.1 ends in
+    let asked = groups_asked place state e (asked_times l from n) (λ id. 0) (IsCoveredGet l from n) before after groups u.dial.ended v.dial.ended opened.unused tries stands
     (each_weaker (λ a b. AsksWants (missed kept_chunks [] (wants_of l from n)) (words.asked a) (words.asked b)) (λ a b. (q : List ℕ) → words.asked b q ≤ words.asked a q + asked_times l from n q) (λ a b h. h.most) before after asks)
     (none_more words.queried before after queries) kept.sends located ended in
     let did : OnDisk (SourcesOpened (stores_of groups)) w (Ok tt) u = rw (sym named) ((opened.there, opened.kept, opened.used), refl, refl) in
     let put = c.put_from-chain.result.1 in
-    let answer : c.numbered-answer.result ≡ answer_of_stores groups (map (λ h. h.active) after) put =
-    c.numbered-answer.ensures.value ∙ ap (λ (names : List (List Location)). answer_of_stores names (map (λ h. h.active) c.as_slice.result.now) put) named
-    ∙ ap (λ (xs : List (Grouped (AnyStore g.row.F-Look.Denot g.row.D.Denot g.row.D-Link.Denot))). answer_of_stores groups (map (λ h. h.active) xs) put) (c.as_slice.ensures.value ∙ c.into_stores-asked.ensures.value) in
+    let answer : c.numbered-answer.result ≡ answer_of_stores groups put = c.numbered-answer.ensures.value ∙ ap (λ (names : List (List Location)). answer_of_stores names put) named in
     let put_so = subst (λ (r : Result Unit Outcome). EndsRange sure groups e l from n u v r) (sym answer) range in
     record { ends = then_so (OnDisk (SourcesOpened (stores_of groups))) (λ _. RangePut sure groups e l from n) w u v tt c.numbered-answer.result did (put_so, subst (λ (names : List (List Location)). ConsultsStores (stores_of names) (storage_of u) (storage_of v)) located consults, asked, c.put_from-chain.ensures.faults) }

@@ -15,7 +15,7 @@ use Rattle.command_steps.proofs.Given.{all_later}
 use Rattle.command_steps.proofs.Numbers.{counted_known, rose_later, rose_longer}
 use Rattle.command_steps.proofs.SeedsOpened.{all_known_later}
 use Rattle.command_steps.proofs.SeedsUsed.{viewed_names}
-use Rattle.command_groups.proofs.Stand.{groups_many, sizes_stand}
+use Rattle.command_groups.proofs.Stand.{groups_many}
 use Rattle.command_outcome.specs.declared.outcome.Outcome.{Outcome}
 use Rattle.command_groups.proofs.Words.{group_words}
 use Rattle.command_groups.specs.Groups.{stores_of}
@@ -491,11 +491,7 @@ give-requires-clause-known g c = out_known g (goal.at.give-requires-clause-known
 
 pub numbered-answer-requires : goal.numbered-answer-requires
 numbered-answer-requires g c =
-    let here = (goal.at.numbered-answer-requires g c).After-of_kits-held in
-    record {
-      few = rw c.as_slice-groups.ensures c.requires.size.few;
-      sizes = rw (c.as_slice-groups.ensures, c.as_slice-opened.ensures.value) (sizes_stand g.F.Look.Look.place here.of_kits-held.result.stores.items here.args.planned.now.stores.groups (still g here).located);
-    }
+    record { few = rw c.as_slice-groups.ensures c.requires.size.few }
 
 pub returns-clause-assembled : goal.returns-clause-assembled
 unfolding run
@@ -510,10 +506,8 @@ returns-clause-assembled g c = λ p ls plan is.
     let made = run_assembled g.F.Look.Look g.F.View.View state g.F.Target.View.never_fails g.F.Folder.Look.never_fails (at c.args.files.now) (see g c.args.held.shelf) (state c.args.dial.now) (at c.give.new.self) (state c.give_back.new.dial) (names g here) (images g here) c.args.held.cache (out g here) l c.args.planned.now.places c.assemble-ended.result.answer
     (run g here (at c.give_back.new.files) (state c.give_back.new.dial) c.give_back.ensures.given (at c.give.new.self) c.give.ensures.counts c.give.ensures.files) p ls plan is in
     let groups = c.args.planned.now.stores.groups in
-    let answer : c.numbered-answer.result ≡ answer_of_stores groups (map (λ q. q.active) (j g here).chain.stores) (answer_of_assembly c.assemble-ended.result.answer) =
-    c.numbered-answer.ensures.value ∙ ap (λ (n : List (List Location)). answer_of_stores n (map (λ q. q.active) c.as_slice-opened.result.now) c.answer_of.result) c.as_slice-groups.ensures
-    ∙ ap (λ (xs : List (Grouped (AnyStore g.row.F-Look.Denot g.row.D.Denot g.row.D-Link.Denot))). answer_of_stores groups (map (λ q. q.active) xs) c.answer_of.result) (c.as_slice-opened.ensures.value ∙ sym c.of_kits-held.ensures.kits.stores_are)
-    ∙ ap (λ (r : Result Unit Outcome). answer_of_stores groups (map (λ q. q.active) (j g here).chain.stores) r) c.answer_of.ensures in
+    let answer : c.numbered-answer.result ≡ answer_of_stores groups (answer_of_assembly c.assemble-ended.result.answer) =
+    c.numbered-answer.ensures.value ∙ ap (λ (n : List (List Location)). answer_of_stores n c.answer_of.result) c.as_slice-groups.ensures ∙ ap (λ (r : Result Unit Outcome). answer_of_stores groups r) c.answer_of.ensures in
     subst (λ (r : Result Unit Outcome). Assembled w v (extract_stores g.F.Look.Look.never_fails (names g here)) c.args.held.cache (out g here) l z r) (sym answer) made
 
 pub returns-clause-asks : goal.returns-clause-asks

@@ -1,4 +1,4 @@
-use Rattle.std.proofs.Common.{map, rules}
+use Rattle.std.proofs.Common.{rules}
 use Rattle.command_steps.proofs.Consulted.{reads_twice}
 use Rattle.command_steps.proofs.Given.{all_later, last_known}
 use Rattle.proxy_command.specs.FolderChains.{folder_location}

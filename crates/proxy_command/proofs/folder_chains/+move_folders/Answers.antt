@@ -1,4 +1,4 @@
-use Rattle.std.proofs.Common.{◌≡◌, ◌∷◌, List, arith, map, rules, subst}
+use Rattle.std.proofs.Common.{arith, map, rules, subst}
 use Rattle.std.specs.Prelude.{IsTrue}
 use Rattle.command_steps.proofs.InTurn.{first_out}
 use Rattle.command_steps.specs.AnyStores.{location_in}

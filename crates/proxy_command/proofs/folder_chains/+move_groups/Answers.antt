@@ -1,13 +1,9 @@
-use Rattle.std.proofs.Common.{◌≡◌, ◌++◌, ◌∷◌, [], List, arith, map, rules, subst, sym}
-use Rattle.std.specs.List.{All}
+use Rattle.std.proofs.Common.{arith, map, rules}
 use Rattle.command_groups.specs.Groups.{stores_of}
-use Rattle.command_steps.proofs.Consulted.{reads_twice}
 use Rattle.command_steps.proofs.Given.{all_later}
 use Rattle.command_steps.proofs.InTurn.{first_out}
-use Rattle.command_steps.specs.AnyStores.{IsKnown}
-use Rattle.command_words.specs.declared.command.Location.{Location}
-use Rattle.proxy_command.proofs.OfFolders.{first_ready, groups_known, groups_later, group_pushed, moved_first, moved_known}
-use Rattle.proxy_command.specs.FolderChains.{any_group, folder_locations}
+use Rattle.proxy_command.proofs.OfFolders.{first_ready, groups_known, groups_later, group_pushed, moved_known}
+use Rattle.proxy_command.specs.FolderChains.{folder_locations}
 use Rattle.proxy_command.proofs.folder_chains.+move_groups.Goals as goal
 
 pub move_groups-requires : goal.move_groups-requires

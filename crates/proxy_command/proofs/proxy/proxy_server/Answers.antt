@@ -1,4 +1,4 @@
-use Rattle.std.proofs.Common.{Some, refl, true}
+use Rattle.std.proofs.Common.{Some, refl}
 use Rattle.cache_store.specs.Shelves.{shelf_of}
 use Rattle.command_steps.specs.Cache.{with_cache}
 use Rattle.proxy_command.proofs.Steps.{none_heard, proxy_ends}

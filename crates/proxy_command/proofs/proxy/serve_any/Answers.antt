@@ -1,4 +1,4 @@
-use Rattle.std.proofs.Common.{◌==◌, false, refl, sym, true}
+use Rattle.std.proofs.Common.{◌==◌, false, refl, sym}
 use Rattle.std.proofs.lemmas.Bool.{eqb-true}
 use Rattle.cache_store.specs.Shelves.{shelf_of}
 use Rattle.command_steps.specs.Cache.{with_cache}

@@ -1,5 +1,4 @@
-use Rattle.std.proofs.Common.{◌==◌, ◌∙◌, subst, sym, true}
-use Rattle.std.specs.Prelude.{IsSome}
+use Rattle.std.proofs.Common.{◌==◌, ◌∙◌, sym}
 use Rattle.cache_store.specs.Shelves.{shelf_of}
 use Rattle.proxy_command.proofs.FolderBack.{folders_served}
 use Rattle.proxy_command.proofs.serve_folders.serve_folders.Goals as goal

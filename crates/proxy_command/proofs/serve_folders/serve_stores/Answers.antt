@@ -1,5 +1,4 @@
-use Rattle.std.proofs.Common.{◌≡◌, ◌==◌, ◌∙◌, ◌≤◌, List, Some, arith, length, map, slice_index_or, subst, sym, true}
-use Rattle.std.proofs.lemmas.List.{length-map}
+use Rattle.std.proofs.Common.{◌==◌, ◌∙◌, Some, arith, slice_index_or, sym}
 use Rattle.cache_store.specs.Shelves.{shelf_of}
 use Rattle.command_steps.proofs.Consulted.{reads_twice}
 use Rattle.command_steps.specs.AnyStores.{source_faults}
@@ -12,7 +11,6 @@ use Rattle.proxy_command.proofs.serve_folders.serve_stores.Goals as goal
 use Rattle.proxy_command.specs.ProxyServing.{look_types}
 use Rattle.proxy_command.specs.Reaching.{chain_chunks, sure_by_types}
 use Rattle.server_commands.specs.Serving.{heard}
-use Rattle.dsy_base.specs.Maps.{Map, at_name}
 
 pub folder_chains-requires : goal.folder_chains-requires
 folder_chains-requires g c =

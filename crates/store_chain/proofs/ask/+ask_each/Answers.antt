@@ -10,7 +10,7 @@ returns-in-Ok-clause-found g t c =
 
 pub returns-in-Ok-clause-kept : goal.returns-in-Ok-clause-kept
 returns-in-Ok-clause-kept g t c =
-    kept_next g.S.Store (λ a. a ≡ Get c.args.query.now.id.0) c.in-Some.first.now c.ask.new.store c.in-Some.rest.now c.in-Some.rest.now c.args.stores.now c.in-Some.ensures.cases.0 c.ask.ensures.kept c.ask.ensures.members c.ask.ensures.files c.ask.ensures.place c.ask.ensures.said c.ask.ensures.sends c.ask.ensures.faults (kept_still g.S.Store (λ a. a ≡ Get c.args.query.now.id.0) c.in-Some.rest.now)
+    kept_next g.S.Store (λ a. a ≡ Get c.args.query.now.id.0) c.in-Some.first.now c.ask.new.store c.in-Some.rest.now c.in-Some.rest.now c.args.stores.now c.in-Some.ensures.cases.0 c.ask.ensures.kept c.ask.ensures.members c.ask.ensures.files c.ask.ensures.folders c.ask.ensures.place c.ask.ensures.said c.ask.ensures.sends c.ask.ensures.faults (kept_still g.S.Store (λ a. a ≡ Get c.args.query.now.id.0) c.in-Some.rest.now)
 
 pub returns-in-Ok-clause-asks : goal.returns-in-Ok-clause-asks
 returns-in-Ok-clause-asks g t c = once_on g.S.Store.asked c.args.query.now.id.0 c.in-Some.first.now c.ask.new.store c.in-Some.rest.now c.in-Some.rest.now c.args.stores.now c.in-Some.ensures.cases.0 c.ask.ensures.asks (none_more g.S.Store.asked c.args.query.now.id.0 c.in-Some.rest.now)
@@ -28,7 +28,7 @@ returns-in-Err-ask_each-clause-err g t c =
 
 pub returns-in-Ok-ask_each-clause-kept : goal.returns-in-Ok-ask_each-clause-kept
 returns-in-Ok-ask_each-clause-kept g t c =
-    kept_next g.S.Store (λ a. a ≡ Get c.args.query.now.id.0) c.in-Some.first.now c.ask.new.store c.in-Some.rest.now c.ask_each.new.stores c.args.stores.now c.in-Some.ensures.cases.0 c.ask.ensures.kept c.ask.ensures.members c.ask.ensures.files c.ask.ensures.place c.ask.ensures.said c.ask.ensures.sends c.ask.ensures.faults c.ask_each.ensures.kept
+    kept_next g.S.Store (λ a. a ≡ Get c.args.query.now.id.0) c.in-Some.first.now c.ask.new.store c.in-Some.rest.now c.ask_each.new.stores c.args.stores.now c.in-Some.ensures.cases.0 c.ask.ensures.kept c.ask.ensures.members c.ask.ensures.files c.ask.ensures.folders c.ask.ensures.place c.ask.ensures.said c.ask.ensures.sends c.ask.ensures.faults c.ask_each.ensures.kept
 
 pub returns-in-Ok-ask_each-clause-asks : goal.returns-in-Ok-ask_each-clause-asks
 returns-in-Ok-ask_each-clause-asks g t c = once_on g.S.Store.asked c.args.query.now.id.0 c.in-Some.first.now c.ask.new.store c.in-Some.rest.now c.ask_each.new.stores c.args.stores.now c.in-Some.ensures.cases.0 c.ask.ensures.asks c.ask_each.ensures.asks
@@ -38,7 +38,7 @@ returns-in-Ok-ask_each-clause-queries g t c = map_on g.S.Store.queried c.in-Some
 
 pub returns-in-Err-ask_each-clause-kept : goal.returns-in-Err-ask_each-clause-kept
 returns-in-Err-ask_each-clause-kept g t c =
-    kept_next g.S.Store (λ a. a ≡ Get c.args.query.now.id.0) c.in-Some.first.now c.ask.new.store c.in-Some.rest.now c.ask_each.new.stores c.args.stores.now c.in-Some.ensures.cases.0 c.ask.ensures.kept c.ask.ensures.members c.ask.ensures.files c.ask.ensures.place c.ask.ensures.said c.ask.ensures.sends c.ask.ensures.faults c.ask_each.ensures.kept
+    kept_next g.S.Store (λ a. a ≡ Get c.args.query.now.id.0) c.in-Some.first.now c.ask.new.store c.in-Some.rest.now c.ask_each.new.stores c.args.stores.now c.in-Some.ensures.cases.0 c.ask.ensures.kept c.ask.ensures.members c.ask.ensures.files c.ask.ensures.folders c.ask.ensures.place c.ask.ensures.said c.ask.ensures.sends c.ask.ensures.faults c.ask_each.ensures.kept
 
 pub returns-in-Err-ask_each-clause-asks : goal.returns-in-Err-ask_each-clause-asks
 returns-in-Err-ask_each-clause-asks g t c = once_on g.S.Store.asked c.args.query.now.id.0 c.in-Some.first.now c.ask.new.store c.in-Some.rest.now c.ask_each.new.stores c.args.stores.now c.in-Some.ensures.cases.0 c.ask.ensures.asks c.ask_each.ensures.asks

@@ -10,7 +10,7 @@ returns-in-Ok-true-clause-found g t c =
 
 pub returns-in-Ok-true-clause-kept : goal.returns-in-Ok-true-clause-kept
 returns-in-Ok-true-clause-kept g t c =
-    kept_next g.S.Store (λ a. a ≡ Has c.args.id.now.0) c.in-Some.first.now c.has_one.new.store c.in-Some.rest.now c.in-Some.rest.now c.args.stores.now c.in-Some.ensures.cases.0 c.has_one.ensures.kept c.has_one.ensures.members c.has_one.ensures.files c.has_one.ensures.place c.has_one.ensures.said c.has_one.ensures.sends c.has_one.ensures.faults (kept_still g.S.Store (λ a. a ≡ Has c.args.id.now.0) c.in-Some.rest.now)
+    kept_next g.S.Store (λ a. a ≡ Has c.args.id.now.0) c.in-Some.first.now c.has_one.new.store c.in-Some.rest.now c.in-Some.rest.now c.args.stores.now c.in-Some.ensures.cases.0 c.has_one.ensures.kept c.has_one.ensures.members c.has_one.ensures.files c.has_one.ensures.folders c.has_one.ensures.place c.has_one.ensures.said c.has_one.ensures.sends c.has_one.ensures.faults (kept_still g.S.Store (λ a. a ≡ Has c.args.id.now.0) c.in-Some.rest.now)
 
 pub returns-in-Ok-true-clause-asks : goal.returns-in-Ok-true-clause-asks
 returns-in-Ok-true-clause-asks g t c = map_on g.S.Store.asked c.in-Some.first.now c.has_one.new.store c.in-Some.rest.now c.in-Some.rest.now c.args.stores.now c.in-Some.ensures.cases.0 c.has_one.ensures.asks refl
@@ -37,7 +37,7 @@ returns-in-Err-clause-err g t c =
 
 pub returns-in-Ok-false-clause-kept : goal.returns-in-Ok-false-clause-kept
 returns-in-Ok-false-clause-kept g t c =
-    kept_next g.S.Store (λ a. a ≡ Has c.args.id.now.0) c.in-Some.first.now c.has_one.new.store c.in-Some.rest.now c.has_each.new.stores c.args.stores.now c.in-Some.ensures.cases.0 c.has_one.ensures.kept c.has_one.ensures.members c.has_one.ensures.files c.has_one.ensures.place c.has_one.ensures.said c.has_one.ensures.sends c.has_one.ensures.faults c.has_each.ensures.kept
+    kept_next g.S.Store (λ a. a ≡ Has c.args.id.now.0) c.in-Some.first.now c.has_one.new.store c.in-Some.rest.now c.has_each.new.stores c.args.stores.now c.in-Some.ensures.cases.0 c.has_one.ensures.kept c.has_one.ensures.members c.has_one.ensures.files c.has_one.ensures.folders c.has_one.ensures.place c.has_one.ensures.said c.has_one.ensures.sends c.has_one.ensures.faults c.has_each.ensures.kept
 
 pub returns-in-Ok-false-clause-asks : goal.returns-in-Ok-false-clause-asks
 returns-in-Ok-false-clause-asks g t c = map_on g.S.Store.asked c.in-Some.first.now c.has_one.new.store c.in-Some.rest.now c.has_each.new.stores c.args.stores.now c.in-Some.ensures.cases.0 c.has_one.ensures.asks c.has_each.ensures.asks
@@ -47,7 +47,7 @@ returns-in-Ok-false-clause-queries g t c = once_on g.S.Store.queried c.args.id.n
 
 pub returns-in-Err-clause-kept : goal.returns-in-Err-clause-kept
 returns-in-Err-clause-kept g t c =
-    kept_next g.S.Store (λ a. a ≡ Has c.args.id.now.0) c.in-Some.first.now c.has_one.new.store c.in-Some.rest.now c.has_each-then.new.stores c.args.stores.now c.in-Some.ensures.cases.0 c.has_one.ensures.kept c.has_one.ensures.members c.has_one.ensures.files c.has_one.ensures.place c.has_one.ensures.said c.has_one.ensures.sends c.has_one.ensures.faults c.has_each-then.ensures.kept
+    kept_next g.S.Store (λ a. a ≡ Has c.args.id.now.0) c.in-Some.first.now c.has_one.new.store c.in-Some.rest.now c.has_each-then.new.stores c.args.stores.now c.in-Some.ensures.cases.0 c.has_one.ensures.kept c.has_one.ensures.members c.has_one.ensures.files c.has_one.ensures.folders c.has_one.ensures.place c.has_one.ensures.said c.has_one.ensures.sends c.has_one.ensures.faults c.has_each-then.ensures.kept
 
 pub returns-in-Err-clause-asks : goal.returns-in-Err-clause-asks
 returns-in-Err-clause-asks g t c = map_on g.S.Store.asked c.in-Some.first.now c.has_one.new.store c.in-Some.rest.now c.has_each-then.new.stores c.args.stores.now c.in-Some.ensures.cases.0 c.has_one.ensures.asks c.has_each-then.ensures.asks

@@ -4,7 +4,6 @@ use Rattle.std.proofs.lemmas.List.Elements.{length_all_zip}
 use Rattle.caibx_codec.specs.Asks.{IsListedHas}
 use Rattle.caibx_codec.specs.Listing.{id_of}
 use Rattle.chunk_store.specs.Said.{KeepsOf}
-use Rattle.command_groups.proofs.Asked.{groups_undialed}
 use Rattle.command_groups.proofs.Lacked.{group_fails_first}
 use Rattle.command_groups.proofs.Seen.{groups_hold, groups_tell}
 use Rattle.command_groups.proofs.Stand.{groups_many}
@@ -14,7 +13,8 @@ use Rattle.command_groups.specs.Groups.{stores_of}
 use Rattle.command_groups.specs.Lacking.{group_said}
 use Rattle.command_groups.specs.Opened.{locations_in, told_files}
 use Rattle.command_steps.proofs.Consulted.{only_read}
-use Rattle.command_steps.specs.Asking.{Asks, AsksOnly}
+use Rattle.command_steps.proofs.Asking.{none_dialed}
+use Rattle.command_steps.specs.Asking.{AsksOnly}
 use Rattle.command_steps.specs.Sources.{storage}
 use Rattle.store_commands.proofs.CountedGroups.{asked_after, consulted_after, first_before, known_after, located_after, standing_after}
 use Rattle.store_commands.proofs.Counting.{counted_told, ended_by, others_denied}
@@ -59,8 +59,8 @@ returns-in_err-opened-clause-asks g c =
     let e = c.args.retries in
     let gets = with_retries e (λ id. 0) in
     let heads = with_retries e (asks_once c.args.index.now) in
-    groups_undialed (AsksOnly gets heads (IsListedHas c.args.index.now)) (Asks gets heads)
-    (λ s. ((λ id. omega arith, λ id. omega arith), λ k d lt. absurd (omega (arith, lt)))) (λ s. (λ id. omega arith, λ id. omega arith)) c.args.groups.now (g.D.Dial.state c.args.dial.now).ended
+    none_dialed (AsksOnly gets heads (IsListedHas c.args.index.now))
+    (λ s. ((λ id. omega arith, λ id. omega arith), λ k d lt. absurd (omega (arith, lt)))) (stores_of c.args.groups.now) (g.D.Dial.state c.args.dial.now).ended
 
 pub returns-in-Ok-clause-counted : goal.returns-in-Ok-clause-counted
 returns-in-Ok-clause-counted g c =

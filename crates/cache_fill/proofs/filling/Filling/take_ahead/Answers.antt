@@ -3,7 +3,6 @@ use Rattle.std.proofs.Common.{◌≡◌, ◌≤◌, ◌+◌, Result, Err, arith,
 use Rattle.caibx_codec.specs.Listing.{count_of}
 use Rattle.cache_fill.proofs.Ahead.{slices_said}
 use Rattle.cache_fill.proofs.Progress.{stopped_so, still_dealt, went_ahead}
-use Rattle.cache_fill.specs.Fetching.{SomeHoldsEntry}
 use Rattle.cache_fill.specs.FillProgress.{FillsOn}
 use Rattle.cache_fill.specs.declared.entry.Stop.{Stop}
 use Rattle.cache_fill.specs.declared.filling.Filling.{Filling}

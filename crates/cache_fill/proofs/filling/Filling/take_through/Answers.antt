@@ -1,12 +1,10 @@
-use borrow.Rule.Reborrow.{re_v}
-use Rattle.std.proofs.Common.{◌≡◌, ◌+◌, ◌≤◌, arith, refl, sym, ◌∙◌}
+use Rattle.std.proofs.Common.{◌+◌, arith, refl, ◌∙◌}
 use Rattle.caibx_codec.specs.Listing.{count_of}
 use Rattle.cache_fill.proofs.Filled.{Turns, answers_stopped, filled_more, turn_of}
 use Rattle.cache_fill.proofs.Progress.{dealt_turn}
 use Rattle.chunk_dealing.proofs.Owners.{dealt_on}
-use Rattle.chunk_dealing.specs.Dealing.{AsksOwn, owner_of}
-use Rattle.cache_fill.specs.FillProgress.{FillsOn, shelf_at}
-use Rattle.cache_fill.specs.declared.filling.Filling.{Filling}
+use Rattle.chunk_dealing.specs.Dealing.{owner_of}
+use Rattle.cache_fill.specs.FillProgress.{shelf_at}
 use Rattle.cache_fill.proofs.filling.Filling.take_through.Goals as goal
 
 pub returns-in-Err-clause-on : goal.returns-in-Err-clause-on

@@ -1,7 +1,7 @@
 use Rattle.std.proofs.Common.{List, ℕ, subst}
 use Rattle.image_slices.proofs.Rooms.{ahead_adds}
 use Rattle.cache_fill.proofs.Ahead.{fetched_slice}
-use Rattle.cache_fill.proofs.EntryCalls.{entry_kept, want_is}
+use Rattle.cache_fill.proofs.EntryCalls.{entry_kept}
 use Rattle.cache_fill.proofs.Fetched.{fetches_more, refused_last, rooms_same}
 use Rattle.chunk_dealing.specs.Dealing.{owner_of}
 use Rattle.cache_fill.specs.Fetching.{SomeHoldsEntry}

@@ -1,4 +1,4 @@
-use Rattle.std.proofs.Common.{ℕ, length, take, sym, subst}
+use Rattle.std.proofs.Common.{ℕ, length, take, refl, sym, subst}
 use Rattle.std.specs.List.{Any}
 use Rattle.std.specs.Prelude.{IfSome}
 use Rattle.chunk_store.specs.Asks.{Get, Sends}
@@ -36,6 +36,23 @@ returns-clause-longer g c = λ is.
     let ended = (g.D.Dial.state c.fetch.new.self.dial).ended in
     subst (λ s. IfSome ended (Any (IsLonger s c.args.id.now.0 (length c.fetch.new.out)))) (sym c.fetch.ensures.server)
     (said_of_added _ _ ended (c.fetch.ensures.longer is))
+
+pub returns-clause-shown_by : goal.returns-clause-shown_by
+returns-clause-shown_by g c =
+    let ended = (g.D.Dial.state c.fetch.new.self.dial).ended in
+    ok_weaker ℕ GetFault _ _ c.fetch.result (λ n p. (
+      refl,
+      subst (λ s. IfSome ended (Any (IsShowing s c.args.id.now.0 (take n c.fetch.new.out)))) (sym c.fetch.ensures.server)
+          (said_of_added _ _ ended p.1),
+    )) c.fetch.ensures.ok
+
+pub returns-clause-longer_by : goal.returns-clause-longer_by
+returns-clause-longer_by g c = λ is.
+    let ended = (g.D.Dial.state c.fetch.new.self.dial).ended in (
+      refl,
+      subst (λ s. IfSome ended (Any (IsLonger s c.args.id.now.0 (length c.fetch.new.out)))) (sym c.fetch.ensures.server)
+          (said_of_added _ _ ended (c.fetch.ensures.longer is)),
+    )
 
 pub returns-clause-said : goal.returns-clause-said
 returns-clause-said g c = λ q.
